@@ -1,0 +1,5 @@
+pub mod Number
+pub mod Field
+pub mod Room
+pub mod Outcome
+pub mod Promises
