@@ -1,0 +1,3 @@
+-- What those above cite of `text`, and the laws that its own proofs cite.
+pub mod Rows
+pub mod Longest
