@@ -88,6 +88,25 @@ seqLen-le s = go (seqLen s) refl
     go zero e = omega arith
     go (suc n) e = seqLen-fits s n e
 
+-- no row has more than four bytes
+abbrev Short : List Row → Type 0
+Short [] = Unit
+Short (r ∷ rs) = (length (r .later) ≤ 3) × Short rs
+
+row-few : (w x : Bool) (m k : ℕ) → m ≤ 3 → k ≤ 4 → cond w (cond x (suc m) 0) k ≤ 4
+row-few true true m k h g = omega arith
+row-few true false m k h g = omega arith
+row-few false x m k h g = g
+
+in-few : (rs : List Row) (b : ℕ) (s : List ℕ) → Short rs → lenIn rs b s ≤ 4
+in-few [] b s h = omega arith
+in-few (r ∷ rs) b s h = row-few (within (r .first) b) (starts (r .later) s) _ _ (h .0) (in-few rs b s (h .1))
+
+pub seqLen-few : (s : List ℕ) → seqLen s ≤ 4
+unfolding seqLen table
+seqLen-few [] = omega arith
+seqLen-few (b ∷ s) = in-few table b s (search arith)
+
 -- a row with a greater first byte, a row with a smaller one, the row itself
 below : (r : Row) (rs : List Row) (b : ℕ) (s : List ℕ) → b < r .first .from → lenIn (r ∷ rs) b s ≡ lenIn rs b s
 below r rs b s h = simp (lt-leb _ _ h)
