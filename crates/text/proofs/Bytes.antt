@@ -1,22 +1,45 @@
 -- The bytes of a character, by the range that its number is in.
 -- Assumes nothing.
 use mathlib.Core.Path.{_≡_, refl, sym, _∙_}
-use mathlib.Core.Bool.{Bool, true, false, cond}
-use mathlib.Core.List.{List, [], _∷_, _++_}
-use Prim.Native.Nat.{ℕ, zero, suc, _+_, _*_, _/_, _%_, _≤_, _<_}
+use mathlib.Core.Bool.{Bool, true, false, cond, false≢true}
+use mathlib.Core.Logic.{_⊎_, inl, inr, ⊎-elim}
+use mathlib.Core.List.{[]}
+use Prim.Native.Nat.{ℕ, _≤_, _<_}
 use native.Mathlib.Omega.{arith}
-use lib.ListN.{length, getD}
-use borrow.Author.Tests.{lt-ltb, le-ltb}
+use lib.Dec.{ltb}
+use borrow.Author.Tests.{lt-ltb, le-ltb, ltb-true, ltb-false}
 use Rattle.text.specs.Utf8.{scalars, isScalar, encode, utf8, one, two, three, four}
 use Rattle.text.proofs.Among.{inside, outside}
 
-scalar-low : (c : ℕ) → c < 0xD800 → isScalar c ≡ true
+pub scalar-low : (c : ℕ) → c < 0xD800 → isScalar c ≡ true
 unfolding isScalar scalars
 scalar-low c h = sym (inside scalars 0 c (omega arith))
 
-scalar-high : (c : ℕ) → 0xE000 ≤ c → c < 0x110000 → isScalar c ≡ true
+pub scalar-high : (c : ℕ) → 0xE000 ≤ c → c < 0x110000 → isScalar c ≡ true
 unfolding isScalar scalars
 scalar-high c h g = sym (inside scalars 1 c (omega arith))
+
+pub side : (c k : ℕ) → (c < k) ⊎ (k ≤ c)
+side c k = go (ltb c k) refl
+  where
+    go : (b : Bool) → ltb c k ≡ b → (c < k) ⊎ (k ≤ c)
+    go true e = inl (ltb-true _ _ e)
+    go false e = inr (ltb-false _ _ e)
+
+not-scalar : (c : ℕ) → isScalar c ≡ true → 0xD800 ≤ c → c < 0xE000 → ⊥
+unfolding isScalar scalars
+not-scalar c e h g = false≢true (outside scalars c (omega arith) ∙ e)
+
+not-past : (c : ℕ) → isScalar c ≡ true → 0x110000 ≤ c → ⊥
+unfolding isScalar scalars
+not-past c e h = false≢true (outside scalars c (omega arith) ∙ e)
+
+-- "0 to D7FF and E000 to 10FFFF"
+pub scalar-side : (c : ℕ) → isScalar c ≡ true → (c < 0xD800) ⊎ ((0xE000 ≤ c) × (c < 0x110000))
+scalar-side c e =
+    ⊎-elim inl
+    (λ h. ⊎-elim (λ g. absurd (not-scalar c e h g)) (λ g. ⊎-elim (λ k. inr (g, k)) (λ k. absurd (not-past c e k)) (side c 0x110000)) (side c 0xE000))
+    (side c 0xD800)
 
 pub utf8-one : (c : ℕ) → c < 0x80 → utf8 c ≡ one c
 unfolding utf8 encode

@@ -5,3 +5,4 @@ pub mod Longest
 pub mod Chars
 pub mod Spaces
 pub mod Bytes
+pub mod Encoded
