@@ -111,10 +111,10 @@ seqLen-few (b ∷ s) = in-few table b s (search arith)
 below : (r : Row) (rs : List Row) (b : ℕ) (s : List ℕ) → b < r .first .from → lenIn (r ∷ rs) b s ≡ lenIn rs b s
 below r rs b s h = simp (lt-leb _ _ h)
 
-above : (r : Row) (rs : List Row) (b : ℕ) (s : List ℕ) → r .first .to < b → lenIn (r ∷ rs) b s ≡ lenIn rs b s
+pub above : (r : Row) (rs : List Row) (b : ℕ) (s : List ℕ) → r .first .to < b → lenIn (r ∷ rs) b s ≡ lenIn rs b s
 above r rs b s h = rw (lt-leb _ _ h, and-false)
 
-here : (r : Row) (rs : List Row) (b : ℕ) (s : List ℕ) → r .first .from ≤ b → b ≤ r .first .to
+pub here : (r : Row) (rs : List Row) (b : ℕ) (s : List ℕ) → r .first .from ≤ b → b ≤ r .first .to
     → lenIn (r ∷ rs) b s ≡ cond (starts (r .later) s) (suc (length (r .later))) 0
 here r rs b s h g = rw (le-leb _ _ h, le-leb _ _ g)
 

@@ -56,19 +56,28 @@ abbrev pub charAt : List ℕ → ℕ → Char
 charAt s at = record { code = scalar (drop at s); len = seqLen (drop at s) }
 
 -- "D76 Unicode scalar value: Any Unicode code point except high-surrogate and low-surrogate code points.": 0 to D7FF and E000 to 10FFFF
-unfoldable pub isScalar : ℕ → Bool
-isScalar c = among (0x0000 ‥ 0xD7FF ∷ 0xE000 ‥ 0x10FFFF ∷ []) c
+unfoldable pub scalars : List Range
+scalars = 0x0000 ‥ 0xD7FF ∷ 0xE000 ‥ 0x10FFFF ∷ []
 
--- Table 3-6 read the other way: as few bytes as hold the number
+unfoldable pub isScalar : ℕ → Bool
+isScalar c = among scalars c
+
+-- Table 3-6 read the other way: the bits of a number, on one to four bytes
+abbrev pub one : ℕ → List ℕ
+one c = c ∷ []
+
+abbrev pub two : ℕ → List ℕ
+two c = (0xC0 + c / 64) ∷ (0x80 + c % 64) ∷ []
+
+abbrev pub three : ℕ → List ℕ
+three c = (0xE0 + c / 4096) ∷ (0x80 + c / 64 % 64) ∷ (0x80 + c % 64) ∷ []
+
+abbrev pub four : ℕ → List ℕ
+four c = (0xF0 + c / 262144) ∷ (0x80 + c / 4096 % 64) ∷ (0x80 + c / 64 % 64) ∷ (0x80 + c % 64) ∷ []
+
+-- as few of them as hold the number
 unfoldable pub encode : ℕ → List ℕ
-encode c =
-    cond (ltb c 0x80)
-    (c ∷ [])
-    (cond (ltb c 0x800)
-    ((0xC0 + c / 64) ∷ (0x80 + c % 64) ∷ [])
-    (cond (ltb c 0x10000)
-    ((0xE0 + c / 4096) ∷ (0x80 + c / 64 % 64) ∷ (0x80 + c % 64) ∷ [])
-    ((0xF0 + c / 262144) ∷ (0x80 + c / 4096 % 64) ∷ (0x80 + c / 64 % 64) ∷ (0x80 + c % 64) ∷ [])))
+encode c = cond (ltb c 0x80) (one c) (cond (ltb c 0x800) (two c) (cond (ltb c 0x10000) (three c) (four c)))
 
 -- "D92 UTF-8 encoding form: The Unicode encoding form that assigns each Unicode scalar value to an unsigned byte sequence of one to
 -- four bytes in length": no bytes for a number that is no scalar value

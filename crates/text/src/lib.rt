@@ -6,7 +6,7 @@ ghost use mathlib.Core.Bool.{cond};
 ghost use Prim.Native.Nat.{_+_, _-_, _%_, _^_, _<_, _≤_};
 ghost use lib.ListN.{length, drop, getD};
 ghost use Rattle.text.specs.Ranges.{_‥_, starts};
-ghost use Rattle.text.specs.Utf8.{seqLen, charAt, isScalar, utf8};
+ghost use Rattle.text.specs.Utf8.{seqLen, charAt, isScalar, utf8, two, three, four};
 ghost use Rattle.text.specs.Valid.{validPrefix, Along};
 ghost use Rattle.text.specs.Space.{whiteSpace};
 
@@ -146,5 +146,100 @@ pub fn char_at(s: &[u8], at: usize) -> Char
             len: 4,
         },
         _ => Char { code: 0, len: 0 },
+    }
+}
+
+// Whether a character is space.
+pub fn white_space(c: u32) -> bool
+    ensures { λ r. ⌜ r ≡ whiteSpace c ⌝ }
+{
+    match c {
+        0x20 | 0x85 | 0xA0 | 0x1680 | 0x2028 | 0x2029 | 0x202F | 0x205F | 0x3000 => true,
+        0x09..=0x0D => true,
+        0x2000..=0x200A => true,
+        _ => false,
+    }
+}
+
+// Whether a number is a Unicode scalar value: a character, and no surrogate.
+pub fn is_scalar(c: u32) -> bool
+    ensures { λ r. ⌜ r ≡ isScalar c ⌝ }
+{
+    match c {
+        0x0000..=0xD7FF => true,
+        0xE000..=0x10FFFF => true,
+        _ => false,
+    }
+}
+
+// How many bytes a character has in UTF-8: none for a number that is no scalar value.
+pub fn utf8_len(c: u32) -> usize
+    ensures { λ r. ⌜ r ≡ length (utf8 c) ⌝ }
+{
+    match c {
+        0x0000..=0x007F => 1,
+        0x0080..=0x07FF => 2,
+        0x0800..=0xD7FF => 3,
+        0xD800..=0xDFFF => 0,
+        0xE000..=0xFFFF => 3,
+        0x10000..=0x10FFFF => 4,
+        _ => 0,
+    }
+}
+
+// The bytes of a character that takes two, three or four, each by its number; 0 past the last.
+fn byte_of_two(c: u32, i: usize) -> u8
+    requires { ⌜ c < 0x800 ⌝ }
+    ensures { λ r. ⌜ r ≡ getD (two c) i 0 ⌝ }
+{
+    match i {
+        0 => (0xC0 + c / 64) as u8,
+        1 => (0x80 + c % 64) as u8,
+        _ => 0,
+    }
+}
+
+fn byte_of_three(c: u32, i: usize) -> u8
+    requires { ⌜ c < 0x10000 ⌝ }
+    ensures { λ r. ⌜ r ≡ getD (three c) i 0 ⌝ }
+{
+    match i {
+        0 => (0xE0 + c / 4096) as u8,
+        1 => (0x80 + c / 64 % 64) as u8,
+        2 => (0x80 + c % 64) as u8,
+        _ => 0,
+    }
+}
+
+fn byte_of_four(c: u32, i: usize) -> u8
+    requires { ⌜ c < 0x110000 ⌝ }
+    ensures { λ r. ⌜ r ≡ getD (four c) i 0 ⌝ }
+{
+    match i {
+        0 => (0xF0 + c / 262144) as u8,
+        1 => (0x80 + c / 4096 % 64) as u8,
+        2 => (0x80 + c / 64 % 64) as u8,
+        3 => (0x80 + c % 64) as u8,
+        _ => 0,
+    }
+}
+
+// Byte number `i` of a character in UTF-8; 0 past its last, and for a number that is no scalar value.
+pub fn utf8_byte(c: u32, i: usize) -> u8
+    ensures { λ r. ⌜ r ≡ getD (utf8 c) i 0 ⌝ }
+{
+    match c {
+        0x0000..=0x007F => {
+            if i == 0 {
+                return c as u8;
+            }
+            0
+        }
+        0x0080..=0x07FF => byte_of_two(c, i),
+        0x0800..=0xD7FF => byte_of_three(c, i),
+        0xD800..=0xDFFF => 0,
+        0xE000..=0xFFFF => byte_of_three(c, i),
+        0x10000..=0x10FFFF => byte_of_four(c, i),
+        _ => 0,
     }
 }
