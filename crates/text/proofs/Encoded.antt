@@ -14,7 +14,7 @@ use Rattle.text.proofs.Rows.{Leads, here, above}
 use Rattle.text.proofs.Bytes.{side, scalar-side, utf8-one, utf8-two, utf8-three, utf8-three-high, utf8-four}
 
 -- each byte in its range
-abbrev AllIn : List Range → List ℕ → Type 0
+abbrev pub AllIn : List Range → List ℕ → Type 0
 AllIn [] s = Unit
 AllIn (r ∷ rs) [] = ⊥
 AllIn (r ∷ rs) (b ∷ s) = ((r .from ≤ b) × (b ≤ r .to)) × AllIn rs s
@@ -24,7 +24,7 @@ all-in [] s h = refl
 all-in (r ∷ rs) [] h = absurd h
 all-in (r ∷ rs) (b ∷ s) h = rw (le-leb _ _ (h .0 .0), le-leb _ _ (h .0 .1)) (all-in rs s (h .1))
 
-abbrev laterOf : List Row → ℕ → List Range
+abbrev pub laterOf : List Row → ℕ → List Range
 laterOf [] k = []
 laterOf (r ∷ rs) zero = r .later
 laterOf (r ∷ rs) (suc k) = laterOf rs k

@@ -6,3 +6,4 @@ pub mod Chars
 pub mod Spaces
 pub mod Bytes
 pub mod Encoded
+pub mod Decoded
