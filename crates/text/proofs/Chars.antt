@@ -9,7 +9,7 @@ use lib.ListN.{length, drop, getD}
 use lib.Seq.{getD-drop}
 use Rattle.text.specs.declared.Char.{Char}
 use Rattle.text.specs.Utf8.{seqLen, bits, scalar, charAt}
-use Rattle.text.proofs.Rows.{seq-fits, seqLen-few}
+use Rattle.text.proofs.Rows.{seq-fits, seq-ascii, seqLen-few}
 
 abbrev char : ℕ → ℕ → Char
 char a k = record { code = a; len = k }
@@ -48,3 +48,6 @@ char-fits s at = seq-fits s at
 
 pub char-few : (s : List ℕ) (at : ℕ) → charAt s at .len ≤ 4
 char-few s at = seqLen-few (drop at s)
+
+pub char-ascii : (s : List ℕ) (at : ℕ) → at < length s → getD s at 0 < 128 → char (getD s at 0) 1 ≡ charAt s at
+char-ascii s at h a = char-one s at 1 (getD s at 0) (sym (seq-ascii s at h a)) refl (omega arith)

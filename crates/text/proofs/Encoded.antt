@@ -61,6 +61,7 @@ four-back c h =
 
 -- l is c in UTF-8: read before anything else it gives its own length, and c
 pub record Back (c : ℕ) (l t : List ℕ) : Type 0 where
+  pub some : 0 < length l
   pub len : seqLen (l ++ t) ≡ length l
   pub code : scalar (l ++ t) ≡ c
 
@@ -69,17 +70,17 @@ module _ (c : ℕ) (t : List ℕ) where
   unfolding table scalar bits
   back-one h =
       let e : seqLen (one c ++ t) ≡ 1 = seq 0 _ _ (omega arith) tt in
-      rw (utf8-one c h) (record { len = e; code = rw e (omega arith) })
+      rw (utf8-one c h) (record { some = omega arith; len = e; code = rw e (omega arith) })
 
   back-two : 0x80 ≤ c → c < 0x800 → Back c (utf8 c) t
   unfolding table scalar bits
   back-two h g =
       let e : seqLen (two c ++ t) ≡ 2 = seq 1 _ _ (omega arith) (omega arith) in
-      rw (utf8-two c h g) (record { len = e; code = rw e (two-back c g) })
+      rw (utf8-two c h g) (record { some = omega arith; len = e; code = rw e (two-back c g) })
 
   three-as : c < 0x10000 → seqLen (three c ++ t) ≡ 3 → Back c (three c) t
   unfolding scalar bits
-  three-as g e = record { len = e; code = rw e (three-back c g) }
+  three-as g e = record { some = omega arith; len = e; code = rw e (three-back c g) }
 
   back-E0 : 0x800 ≤ c → c < 0x1000 → Back c (utf8 c) t
   unfolding table
@@ -99,7 +100,7 @@ module _ (c : ℕ) (t : List ℕ) where
 
   four-as : c < 0x110000 → seqLen (four c ++ t) ≡ 4 → Back c (four c) t
   unfolding scalar bits
-  four-as g e = record { len = e; code = rw e (four-back c g) }
+  four-as g e = record { some = omega arith; len = e; code = rw e (four-back c g) }
 
   back-F0 : 0x10000 ≤ c → c < 0x40000 → Back c (utf8 c) t
   unfolding table

@@ -7,3 +7,5 @@ pub mod Spaces
 pub mod Bytes
 pub mod Encoded
 pub mod Decoded
+pub mod Texts
+pub mod Promises

@@ -155,6 +155,10 @@ pub seq-between : (s : List ℕ) (at k : ℕ) → at < length s → Between tabl
 unfolding seqLen
 seq-between s at k h l = rw (drop-cons s at 0 h) (between table k (getD s at 0) (drop (suc at) s) l)
 
+pub seq-ascii : (s : List ℕ) (at : ℕ) → at < length s → getD s at 0 < 128 → seqLen (drop at s) ≡ 1
+unfolding table
+seq-ascii s at h a = seq-row s at 0 h (omega arith)
+
 pub seq-out : (s : List ℕ) (at : ℕ) → length s ≤ at → seqLen (drop at s) ≡ 0
 unfolding seqLen
 seq-out s at h = rw (drop-of-length-le s h)

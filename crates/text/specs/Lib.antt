@@ -3,3 +3,4 @@ pub mod Ranges
 pub mod Utf8
 pub mod Valid
 pub mod Space
+pub mod Examples
