@@ -1,6 +1,6 @@
 -- Valid UTF-8, and the longest valid prefix.
 use mathlib.Core.Path.{_≡_}
-use Prim.Native.Nat.{ℕ, zero, suc, _+_, _≤_}
+use Prim.Native.Nat.{ℕ, zero, suc, _≤_}
 use mathlib.Core.Bool.{Bool, true, _&&_}
 use mathlib.Core.List.{List, [], _∷_, _++_}
 use lib.ListN.{length, take, drop}
@@ -45,9 +45,3 @@ pub record Characters (s : List ℕ) : Type 0 where
   pub chars : List ℕ
   pub all : allScalar chars ≡ true
   pub are : s ≡ textOf chars
-
--- at and r are places of the list, in this order, and the valid bytes from at end where those from r end
-pub record Along (s : List ℕ) (at r : ℕ) : Type 0 where
-  pub same : at + validPrefix (drop at s) ≡ r + validPrefix (drop r s)
-  pub low : at ≤ r
-  pub high : r ≤ length s
