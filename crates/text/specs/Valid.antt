@@ -6,7 +6,7 @@ use mathlib.Core.List.{List, [], _∷_, _++_}
 use lib.ListN.{length, take, drop}
 use Rattle.text.specs.Utf8.{seqLen, isScalar, utf8}
 
--- a row of well-formed sequences, and nothing else
+-- "source not UTF-8", "texts are UTF-8": a list is UTF-8 if it is a row of the sequences of Table 3-7, and nothing else
 pub data Valid : List ℕ → Type 0 where
   none : Valid []
   more : (s : List ℕ) (n : ℕ) → seqLen s ≡ suc n → Valid (drop (suc n) s) → Valid s
