@@ -1,20 +1,20 @@
 -- Decoding the bytes of a character gives the character back: a case for each row of Table 3-7.
 -- Assumes nothing.
-use mathlib.Core.Path.{_≡_, refl, sym, ap, _∙_}
-use mathlib.Core.Bool.{Bool, true, false, cond, _&&_}
+use mathlib.Core.Path.{_≡_, refl, _∙_}
+use mathlib.Core.Bool.{true}
 use mathlib.Core.Logic.{⊎-elim}
 use mathlib.Core.List.{List, [], _∷_, _++_}
 use Prim.Native.Nat.{ℕ, zero, suc, _+_, _*_, _/_, _%_, _≤_, _<_}
 use native.Mathlib.Omega.{arith}
-use lib.ListN.{length, getD}
+use lib.ListN.{length}
 use borrow.Author.Tests.{le-leb}
-use Rattle.text.specs.Ranges.{Range, within, starts}
+use Rattle.text.specs.Ranges.{Range, starts}
 use Rattle.text.specs.Utf8.{Row, table, lenIn, seqLen, bits, scalar, isScalar, utf8, one, two, three, four}
 use Rattle.text.proofs.Rows.{Leads, here, above}
 use Rattle.text.proofs.Bytes.{side, scalar-side, utf8-one, utf8-two, utf8-three, utf8-three-high, utf8-four}
 
 -- each byte in its range
-abbrev AllIn : List Range → List ℕ → Type 0
+abbrev pub AllIn : List Range → List ℕ → Type 0
 AllIn [] s = Unit
 AllIn (r ∷ rs) [] = ⊥
 AllIn (r ∷ rs) (b ∷ s) = ((r .from ≤ b) × (b ≤ r .to)) × AllIn rs s
@@ -24,7 +24,7 @@ all-in [] s h = refl
 all-in (r ∷ rs) [] h = absurd h
 all-in (r ∷ rs) (b ∷ s) h = rw (le-leb _ _ (h .0 .0), le-leb _ _ (h .0 .1)) (all-in rs s (h .1))
 
-abbrev laterOf : List Row → ℕ → List Range
+abbrev pub laterOf : List Row → ℕ → List Range
 laterOf [] k = []
 laterOf (r ∷ rs) zero = r .later
 laterOf (r ∷ rs) (suc k) = laterOf rs k
@@ -61,6 +61,7 @@ four-back c h =
 
 -- l is c in UTF-8: read before anything else it gives its own length, and c
 pub record Back (c : ℕ) (l t : List ℕ) : Type 0 where
+  pub some : 0 < length l
   pub len : seqLen (l ++ t) ≡ length l
   pub code : scalar (l ++ t) ≡ c
 
@@ -69,17 +70,17 @@ module _ (c : ℕ) (t : List ℕ) where
   unfolding table scalar bits
   back-one h =
       let e : seqLen (one c ++ t) ≡ 1 = seq 0 _ _ (omega arith) tt in
-      rw (utf8-one c h) (record { len = e; code = rw e (omega arith) })
+      rw (utf8-one c h) (record { some = omega arith; len = e; code = rw e (omega arith) })
 
   back-two : 0x80 ≤ c → c < 0x800 → Back c (utf8 c) t
   unfolding table scalar bits
   back-two h g =
       let e : seqLen (two c ++ t) ≡ 2 = seq 1 _ _ (omega arith) (omega arith) in
-      rw (utf8-two c h g) (record { len = e; code = rw e (two-back c g) })
+      rw (utf8-two c h g) (record { some = omega arith; len = e; code = rw e (two-back c g) })
 
   three-as : c < 0x10000 → seqLen (three c ++ t) ≡ 3 → Back c (three c) t
   unfolding scalar bits
-  three-as g e = record { len = e; code = rw e (three-back c g) }
+  three-as g e = record { some = omega arith; len = e; code = rw e (three-back c g) }
 
   back-E0 : 0x800 ≤ c → c < 0x1000 → Back c (utf8 c) t
   unfolding table
@@ -99,7 +100,7 @@ module _ (c : ℕ) (t : List ℕ) where
 
   four-as : c < 0x110000 → seqLen (four c ++ t) ≡ 4 → Back c (four c) t
   unfolding scalar bits
-  four-as g e = record { len = e; code = rw e (four-back c g) }
+  four-as g e = record { some = omega arith; len = e; code = rw e (four-back c g) }
 
   back-F0 : 0x10000 ≤ c → c < 0x40000 → Back c (utf8 c) t
   unfolding table

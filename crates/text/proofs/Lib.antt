@@ -6,3 +6,6 @@ pub mod Chars
 pub mod Spaces
 pub mod Bytes
 pub mod Encoded
+pub mod Decoded
+pub mod Texts
+pub mod Promises

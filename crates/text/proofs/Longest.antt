@@ -2,13 +2,16 @@
 -- Assumes nothing.
 use mathlib.Core.Path.{_≡_, refl, sym, ap, _∙_}
 use mathlib.Core.List.{List, [], _∷_, _++_}
-use Prim.Native.Nat.{ℕ, zero, suc, _+_, _-_, _≤_, _<_}
+use Prim.Native.Nat.{ℕ, zero, suc, _+_, _/_, _≤_, _<_}
+use native.Mathlib.Nat.{add-zero, add-suc}
+use native.Mathlib.Numerals.{add-one}
 use native.Mathlib.Omega.{arith}
-use lib.ListN.{length, take, drop, getD, length-drop, length-append, take-append-drop}
+use lib.ListN.{length, take, drop, getD, length-drop, take-append-drop}
 use lib.Seq.{take-add, drop-at, length-take-le, drop-append-le, drop-drop, take-length}
-use Rattle.text.specs.Utf8.{seqLen, table}
-use Rattle.text.specs.Valid.{Valid, none, more, oneOf, passing, validPrefix, Along}
-use Rattle.text.proofs.Rows.{seqLen-more, seqLen-take, seqLen-fits, seq-row}
+use Rattle.text.specs.Utf8.{seqLen}
+use Rattle.text.specs.Valid.{Valid, none, more, oneOf, passing, validPrefix, Longest}
+use Rattle.text.specs.Along.{Along, highs}
+use Rattle.text.proofs.Rows.{seqLen-more, seqLen-take, seqLen-fits, seq-ascii}
 
 oneOf-le : (m l : ℕ) (f : ℕ → ℕ) → ((n : ℕ) → f n ≤ l) → oneOf m f ≤ suc l
 oneOf-le zero l f h = omega arith
@@ -44,6 +47,9 @@ prefix-more (b ∷ s) n e =
     let h : n < length (b ∷ s) = seqLen-fits (b ∷ s) n e in
     let q : passing n s ≡ n + passing 0 (drop n s) = passed s n (omega arith) in
     rw e (omega arith)
+
+pub prefix-cons : (b : ℕ) (s : List ℕ) → b < 128 → validPrefix (b ∷ s) ≡ suc (validPrefix s)
+prefix-cons b s h = prefix-more (b ∷ s) 0 (seq-ascii (b ∷ s) 0 (omega arith) h) ∙ omega arith
 
 -- a valid list before another
 pub prefix-after : {p : List ℕ} → Valid p → (t : List ℕ) → validPrefix (p ++ t) ≡ length p + validPrefix t
@@ -84,6 +90,13 @@ prefix-longest s n h v =
     let e : validPrefix s ≡ length (take n s) + validPrefix (drop n s) = rw take-append-drop at (prefix-after v (drop n s)) in
     omega (arith, length-take-le n s h)
 
+pub prefix-is : (s : List ℕ) → Longest s (validPrefix s)
+prefix-is s = record { within = prefix-le s; valid = prefix-valid s; most = prefix-longest s }
+
+pub prefix-one : (s : List ℕ) (n : ℕ) → Longest s n → n ≡ validPrefix s
+prefix-one s n l =
+    omega (arith, prefix-longest s n (l .within) (l .valid), l .most (validPrefix s) (prefix-le s) (prefix-valid s))
+
 pub prefix-whole : (s : List ℕ) → Valid s → validPrefix s ≡ length s
 prefix-whole s v = omega (arith, prefix-le s, prefix-longest s (length s) (omega arith) (rw take-length v))
 
@@ -100,8 +113,18 @@ prefix-at s i zero e h = absurd (omega arith)
 prefix-at s i (suc n) e h = prefix-more (drop i s) n e ∙ rw (drop-drop (suc n) i s)
 
 pub prefix-ascii : (s : List ℕ) (i : ℕ) → i < length s → getD s i 0 < 128 → validPrefix (drop i s) ≡ 1 + validPrefix (drop (i + 1) s)
-unfolding table
-prefix-ascii s i h a = prefix-at s i 1 (seq-row s i 0 h (omega arith)) (omega arith)
+prefix-ascii s i h a = prefix-at s i 1 (seq-ascii s i h a) (omega arith)
+
+valid-next : {p : List ℕ} → Valid p → 0 < length p → (0 < seqLen p) × Valid (drop (seqLen p) p)
+valid-next none h = absurd (omega arith)
+valid-next (more p n e v) h = rw e (omega arith, v)
+
+-- from one character of a valid text to the next
+pub valid-at : (s : List ℕ) (i : ℕ) → Valid (drop i s) → i < length s
+    → (0 < seqLen (drop i s)) × Valid (drop (i + seqLen (drop i s)) s)
+valid-at s i v h =
+    let n = valid-next v (omega (arith, length-drop i s)) in
+    (n .0, rw (drop-drop (seqLen (drop i s)) i s) at (n .1))
 
 pub along-here : (s : List ℕ) (at : ℕ) → at ≤ length s → Along s at at
 along-here s at h = record { same = refl; low = omega arith; high = h }
@@ -110,6 +133,24 @@ pub along-ascii : (s : List ℕ) (at i : ℕ) → Along s at i → i < length s 
 along-ascii s at i a h b =
     let e : validPrefix (drop i s) ≡ 1 + validPrefix (drop (i + 1) s) = prefix-ascii s i h b in
     record { same = omega (arith, a .same); low = omega arith; high = omega arith }
+
+pub highs-more : (s : List ℕ) (at n k : ℕ) → n ≡ highs s at k → n + getD s (at + k) 0 / 128 ≡ highs s at (k + 1)
+unfolding highs
+highs-more s at n k e = rw (add-one, e)
+
+along-highs : (s : List ℕ) (at i n : ℕ) → Along s at i → i + n ≤ length s → highs s i n ≡ 0 → Along s at (i + n)
+unfolding highs
+along-highs s at i zero a h e = rw add-zero a
+along-highs s at i (suc n) a h e =
+    rw (add-suc, ← add-one)
+    (along-ascii s at (i + n) (along-highs s at i n a (omega arith) (omega arith)) (omega arith) (omega arith))
+
+pub along-block : (s : List ℕ) (at i n r : ℕ) → Along s at i → i + n ≤ length s → r ≡ highs s i n → r ≡ 0 → Along s at (i + n)
+along-block s at i n r a h e z = along-highs s at i n a h (cc)
+
+pub along-along : (s : List ℕ) (at i r : ℕ) → Along s at i → Along s i r → Along s at r
+along-along s at i r a b =
+    record { same = a .same ∙ b .same; low = omega (arith, a .low, b .low); high = b .high }
 
 pub along-more : (s : List ℕ) (at i n r : ℕ) → Along s at i → n ≡ seqLen (drop i s) → (n ≡ 0 → ⊥) → Along s (i + n) r → Along s at r
 along-more s at i n r a e z b =

@@ -1,6 +1,6 @@
 -- What the rows of Table 3-7 make of a list: a sequence needs only its own bytes, and the first byte says which row.
 -- Assumes nothing.
-use mathlib.Core.Path.{_≡_, refl, sym, ap, _∙_}
+use mathlib.Core.Path.{_≡_, refl, sym, _∙_}
 use mathlib.Core.Bool.{Bool, true, false, cond, _&&_, and-true, and-false}
 use mathlib.Core.List.{List, [], _∷_, _++_}
 use Prim.Native.Nat.{ℕ, zero, suc, _+_, _-_, _≤_, _<_}
@@ -8,7 +8,7 @@ use native.Mathlib.Omega.{arith}
 use native.Mathlib.Numerals.{add-one}
 use lib.ListN.{length, take, drop, getD, length-drop, drop-of-length-le}
 use lib.Seq.{drop-cons, drop-drop}
-use borrow.Author.Tests.{le-leb, lt-leb, leb-true}
+use borrow.Author.Tests.{le-leb, lt-leb}
 use lib.Dec.{leb}
 use Rattle.text.specs.Ranges.{Range, _‥_, within, starts}
 use Rattle.text.specs.Utf8.{Row, table, lenIn, seqLen}
@@ -154,6 +154,10 @@ seq-row s at k h l = rw (add-one, drop-cons s at 0 h) (leads table k (getD s at 
 pub seq-between : (s : List ℕ) (at k : ℕ) → at < length s → Between table k (getD s at 0) → seqLen (drop at s) ≡ 0
 unfolding seqLen
 seq-between s at k h l = rw (drop-cons s at 0 h) (between table k (getD s at 0) (drop (suc at) s) l)
+
+pub seq-ascii : (s : List ℕ) (at : ℕ) → at < length s → getD s at 0 < 128 → seqLen (drop at s) ≡ 1
+unfolding table
+seq-ascii s at h a = seq-row s at 0 h (omega arith)
 
 pub seq-out : (s : List ℕ) (at : ℕ) → length s ≤ at → seqLen (drop at s) ≡ 0
 unfolding seqLen
