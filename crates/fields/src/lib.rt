@@ -46,19 +46,26 @@ pub fn put(out: &mut [u8], at: usize, bytes: &[u8]) -> usize
     end
 }
 
-// Puts a field of two numbers: a record of 7 bytes.
+// Puts a field of two numbers: a record of 7 bytes, by straight stores where it fits, since most of a listing is such fields.
 pub fn put_pair(out: &mut [u8], at: usize, tag: u8, a: usize, b: usize) -> usize
     requires { ⌜ at + 7 < 2 ^ 64 ⌝ }
     ensures { λ r. ⌜ (r ≡ at + 7) × (now (out .exit) ≡ overlay (now (out .entry)) at (field tag (number 2 a ++ number 2 b))) ⌝ }
 {
-    let bytes = [
-        tag,
-        4,
-        0,
-        (a % 256) as u8,
-        (a / 256 % 256) as u8,
-        (b % 256) as u8,
-        (b / 256 % 256) as u8,
-    ];
+    let low = (a % 256) as u8;
+    let high = (a / 256 % 256) as u8;
+    let lower = (b % 256) as u8;
+    let higher = (b / 256 % 256) as u8;
+    let end = at + 7;
+    if end <= out.len() {
+        out[at] = tag;
+        out[at + 1] = 4;
+        out[at + 2] = 0;
+        out[at + 3] = low;
+        out[at + 4] = high;
+        out[at + 5] = lower;
+        out[at + 6] = higher;
+        return end;
+    }
+    let bytes = [tag, 4, 0, low, high, lower, higher];
     put(out, at, &bytes)
 }
