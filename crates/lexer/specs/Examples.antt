@@ -20,7 +20,7 @@ use Rattle.lexer.specs.Kind.{kind, plain}
 use Rattle.lexer.specs.Escape.{named, hexDigit, hex, hexes, surrogate, unicode, simple}
 use Rattle.lexer.specs.Read.{Read, read, deep, after, andThen, enclose}
 use Rattle.lexer.specs.Lex.{leafAt, closing, close, textByte, text, tokens, rest, whole}
-use Rattle.lexer.specs.Listing.{pair, tokensBytes, tag, opener, errorBytes, errorsBytes, edition}
+use Rattle.lexer.specs.Listing.{pair, tokensBytes, errorTag, opener, errorBytes, errorsBytes, edition}
 use Rattle.lexer.specs.Lexing.{listed, lexing}
 
 -- what is listed of a source: "0: listing of tokens; 1: listing of errors, nothing else"

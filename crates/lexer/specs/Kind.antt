@@ -23,5 +23,5 @@ kind b =
 unfoldable pub plain : ℕ → List ℕ → ℕ → Scan
 plain tag s at =
     cond (eqb tag 0x01) (modThenIdent s (at + 1))
-    (cond (eqb tag 0x02 || eqb tag 0x03) (ident1 s (at + 1))
-    (cond (eqb tag 0x04) (num s (at + 1)) (scan (sym s at))))
+    (cond (eqb tag 0x04) (num s (at + 1))
+    (cond (eqb tag 0x05) (scan (sym s at)) (ident1 s (at + 1))))

@@ -11,4 +11,5 @@ pub mod Escape
 pub mod Lex
 pub mod Listing
 pub mod Lexing
+pub mod Meets
 pub mod Examples

@@ -21,13 +21,13 @@ unfoldable mutual
   tokensBytes w (more t ts) = tokenBytes w t ++ tokensBytes w ts
 
 -- "Errors: Digit 20, Ident 21, Delim 22, Escape 23, Unicode 24, Token 25, with place, Delim also its opener byte"
-unfoldable pub tag : Expect → ℕ
-tag digit = 0x20
-tag ident = 0x21
-tag (closer b) = 0x22
-tag escape = 0x23
-tag unicode = 0x24
-tag any = 0x25
+unfoldable pub errorTag : Expect → ℕ
+errorTag digit = 0x20
+errorTag ident = 0x21
+errorTag (closer b) = 0x22
+errorTag escape = 0x23
+errorTag unicode = 0x24
+errorTag any = 0x25
 
 unfoldable pub opener : Expect → List ℕ
 opener (closer b) = b ∷ []
@@ -38,7 +38,7 @@ opener unicode = []
 opener any = []
 
 unfoldable pub errorBytes : ℕ → Error → List ℕ
-errorBytes w e = field (tag (e .expect)) (number w (e .place) ++ opener (e .expect))
+errorBytes w e = field (errorTag (e .expect)) (number w (e .place) ++ opener (e .expect))
 
 unfoldable pub errorsBytes : ℕ → List Error → List ℕ
 errorsBytes w [] = []

@@ -1,39 +1,39 @@
 // The cycle.
-use scan::Scan;
-use scan::byte_at;
+use crate::class::kind;
+use crate::escape::simple;
+use crate::num::num;
+use crate::put::put_delim;
+use crate::put::put_end;
+use crate::put::put_leaf;
+use crate::put::put_text;
+use crate::scan::Scanned;
+use crate::scan::State;
+use crate::scan::byte_at;
+use crate::space::space;
+use crate::sym::sym;
+use crate::word::ident1;
+use crate::word::mod_then_ident;
 
-pub struct State {
-    pub at: usize,
-    pub tokens: usize,
-    pub errors: usize,
-    pub ok: bool,
-}
-
-fn kind(b: u8) -> u8 {
-    match b {
-        b'a'..=b'z' => 1,
-        b'A'..=b'Z' => 1,
-        b'_' => 1,
-        b'$' => 2,
-        b'@' => 3,
-        b'0'..=b'9' => 4,
-        b'|' | b'=' | b'!' | b'<' | b'>' | b'+' | b'-' | b'*' | b'/' | b'%' => 5,
-        b'.' | b':' | b';' | b',' | b'?' => 5,
-        b'"' => 6,
-        b'(' | b'[' | b'{' => 7,
-        _ => 0,
+fn plain(s: &[u8], tag: u8, at: usize, err: &mut [u8], e: usize) -> Scanned {
+    match tag {
+        1 => mod_then_ident(s, at + 1, err, e),
+        4 => num(s, at + 1, err, e),
+        5 => Scanned {
+            at: sym(s, at),
+            errors: e,
+        },
+        _ => ident1(s, at + 1, err, e),
     }
 }
 
-fn plain(s: &[u8], tag: u8, at: usize, err: &mut [u8], e: usize) -> Scan {
-    match tag {
-        1 => word::mod_then_ident(s, at + 1, err, e),
-        2 | 3 => word::ident1(s, at + 1, err, e),
-        4 => num::num(s, at + 1, err, e),
-        _ => Scan {
-            at: sym::sym(s, at),
-            errors: e,
-        },
+fn leaf(s: &[u8], tag: u8, st: State, out: &mut [u8], err: &mut [u8]) -> State {
+    let at = st.at;
+    let p = plain(s, tag, at, err, st.errors);
+    State {
+        at: p.at,
+        tokens: put_leaf(out, st.tokens, tag, at, p.at - at),
+        errors: p.errors,
+        deep: 0,
     }
 }
 
@@ -45,97 +45,21 @@ fn closing(b: u8) -> u8 {
     }
 }
 
-fn hex(b: u8) -> u32 {
-    match b {
-        b'0'..=b'9' => (b - 0x30) as u32,
-        b'A'..=b'F' => (b - 0x37) as u32,
-        b'a'..=b'f' => (b - 0x57) as u32,
-        _ => 16,
-    }
-}
-
-fn unicode(s: &[u8], st: State, out: &mut [u8], err: &mut [u8]) -> State {
+fn close(s: &[u8], opener: u8, st: State, out: &mut [u8], err: &mut [u8]) -> State {
     let at = st.at;
-    let mut code: u32 = 0;
-    let mut i = 0;
-    while i < 4 {
-        let v = hex(byte_at(s, at + i));
-        if v == 16 {
-            let e = put::put_error(err, st.errors, 0x24, at + i);
-            return State {
-                at: at + i,
-                tokens: st.tokens,
-                errors: e,
-                ok: true,
-            };
-        }
-        code = code * 16 + v;
-        i += 1;
-    }
-    if 0xD800 <= code {
-        if code <= 0xDFFF {
-            let e = put::put_error(err, st.errors, 0x24, at);
-            return State {
-                at: at,
-                tokens: st.tokens,
-                errors: e,
-                ok: true,
-            };
-        }
-    }
-    let o = put::put_char(out, st.tokens, code);
-    State {
-        at: at + 4,
-        tokens: o,
-        errors: st.errors,
-        ok: true,
-    }
-}
-
-fn named(b: u8) -> u8 {
-    match b {
-        b'\\' | b'/' | b'"' => b,
-        b'b' => 8,
-        b'f' => 12,
-        b'n' => 10,
-        b'r' => 13,
-        b't' => 9,
-        _ => 0,
-    }
-}
-
-fn simple(s: &[u8], st: State, out: &mut [u8], err: &mut [u8]) -> State {
-    let at = st.at;
-    let b = byte_at(s, at);
-    if b == b'u' {
-        return unicode(
-            s,
-            State {
-                at: at + 1,
-                tokens: st.tokens,
-                errors: st.errors,
-                ok: true,
-            },
-            out,
-            err,
-        );
-    }
-    let c = named(b);
-    if c == 0 {
-        let e = put::put_error(err, st.errors, 0x23, at);
+    if byte_at(s, at) == closing(opener) {
         return State {
-            at: at,
-            tokens: st.tokens,
-            errors: e,
-            ok: true,
+            at: at + 1,
+            tokens: put_leaf(out, st.tokens, 5, at, 1),
+            errors: st.errors,
+            deep: 0,
         };
     }
-    let o = put::put_char(out, st.tokens, c as u32);
     State {
-        at: at + 1,
-        tokens: o,
-        errors: st.errors,
-        ok: true,
+        at: at,
+        tokens: st.tokens,
+        errors: put_delim(err, st.errors, opener, at),
+        deep: 0,
     }
 }
 
@@ -156,33 +80,13 @@ fn text_end(s: &[u8], at: usize) -> usize {
 
 // A group that began at st, with what p found in it.
 fn enclose(tag: u8, st: State, p: State, out: &mut [u8]) -> State {
+    let o = put_end(out, p.tokens);
     fields::put_pair(out, st.tokens, tag, st.at, p.at - st.at);
-    let o = put::put_end(out, p.tokens);
     State {
         at: p.at,
         tokens: o,
         errors: p.errors,
-        ok: true,
-    }
-}
-
-fn close(s: &[u8], opener: u8, st: State, out: &mut [u8], err: &mut [u8]) -> State {
-    let at = st.at;
-    if byte_at(s, at) == closing(opener) {
-        let o = fields::put_pair(out, st.tokens, 5, at, 1);
-        return State {
-            at: at + 1,
-            tokens: o,
-            errors: st.errors,
-            ok: true,
-        };
-    }
-    let e = put::put_delim(err, st.errors, opener, at);
-    State {
-        at: at,
-        tokens: st.tokens,
-        errors: e,
-        ok: true,
+        deep: 0,
     }
 }
 
@@ -191,7 +95,7 @@ fn too_deep(st: State) -> State {
         at: st.at + 1,
         tokens: st.tokens,
         errors: st.errors,
-        ok: false,
+        deep: st.at + 1,
     }
 }
 
@@ -200,52 +104,42 @@ fn inside(st: State) -> State {
         at: st.at + 1,
         tokens: st.tokens + 7,
         errors: st.errors,
-        ok: true,
+        deep: 0,
+    }
+}
+
+fn placed(st: State, at: usize) -> State {
+    State {
+        at: at,
+        tokens: st.tokens,
+        errors: st.errors,
+        deep: 0,
     }
 }
 
 pub fn tokens(s: &[u8], n: usize, st: State, out: &mut [u8], err: &mut [u8]) -> State {
-    let mut at = st.at;
-    let mut o = st.tokens;
-    let mut e = st.errors;
+    let mut p = st;
     loop {
-        at = space::space(s, at);
-        let here = State {
-            at: at,
-            tokens: o,
-            errors: e,
-            ok: true,
-        };
-        if kind(byte_at(s, at)) == 0 {
-            return here;
-        }
-        let p = token(s, n, here, out, err);
-        if !p.ok {
+        p = placed(p, space(s, p.at));
+        let tag = kind(byte_at(s, p.at));
+        if tag == 0 {
             return p;
         }
-        at = p.at;
-        o = p.tokens;
-        e = p.errors;
+        p = token(s, n, tag, p, out, err);
+        if p.deep != 0 {
+            return p;
+        }
     }
 }
 
-fn token(s: &[u8], n: usize, st: State, out: &mut [u8], err: &mut [u8]) -> State {
-    let at = st.at;
-    let tag = kind(byte_at(s, at));
-    match tag {
-        6 => string(s, n, st, out, err),
-        7 => block(s, n, st, out, err),
-        _ => {
-            let p = plain(s, tag, at, err, st.errors);
-            let o = fields::put_pair(out, st.tokens, tag, at, p.at - at);
-            State {
-                at: p.at,
-                tokens: o,
-                errors: p.errors,
-                ok: true,
-            }
-        }
+fn token(s: &[u8], n: usize, tag: u8, st: State, out: &mut [u8], err: &mut [u8]) -> State {
+    if tag == 6 {
+        return str(s, n, st, out, err);
     }
+    if tag == 7 {
+        return block(s, n, st, out, err);
+    }
+    leaf(s, tag, st, out, err)
 }
 
 fn block(s: &[u8], n: usize, st: State, out: &mut [u8], err: &mut [u8]) -> State {
@@ -253,78 +147,53 @@ fn block(s: &[u8], n: usize, st: State, out: &mut [u8], err: &mut [u8]) -> State
         return too_deep(st);
     }
     let p = tokens(s, n - 1, inside(st), out, err);
-    if !p.ok {
+    if p.deep != 0 {
         return p;
     }
-    let at = space::space(s, p.at);
-    let q = close(
-        s,
-        byte_at(s, st.at),
-        State {
-            at: at,
-            tokens: p.tokens,
-            errors: p.errors,
-            ok: true,
-        },
-        out,
-        err,
-    );
-    enclose(7, st, q, out)
+    let q = placed(p, space(s, p.at));
+    let r = close(s, byte_at(s, st.at), q, out, err);
+    enclose(7, st, r, out)
 }
 
-fn string(s: &[u8], n: usize, st: State, out: &mut [u8], err: &mut [u8]) -> State {
+// The end of a part
+fn text_part(s: &[u8], st: State, out: &mut [u8]) -> State {
+    let from = st.at;
+    let a = text_end(s, from);
+    State {
+        at: a,
+        tokens: put_text(out, st.tokens, from, a),
+        errors: st.errors,
+        deep: 0,
+    }
+}
+
+fn quote(b: u8, p: State, err: &mut [u8]) -> State {
+    if b == b'"' {
+        return placed(p, p.at + 1);
+    }
+    State {
+        at: p.at,
+        tokens: p.tokens,
+        errors: put_delim(err, p.errors, b'"', p.at),
+        deep: 0,
+    }
+}
+
+fn str(s: &[u8], n: usize, st: State, out: &mut [u8], err: &mut [u8]) -> State {
     if n == 0 {
         return too_deep(st);
     }
     let mut p = inside(st);
     loop {
-        let from = p.at;
-        let a = text_end(s, from);
-        let o = put::put_text(out, p.tokens, from, a);
-        let b = byte_at(s, a);
-        if b == b'"' {
-            return enclose(
-                6,
-                st,
-                State {
-                    at: a + 1,
-                    tokens: o,
-                    errors: p.errors,
-                    ok: true,
-                },
-                out,
-            );
-        }
+        let q = text_part(s, p, out);
+        let b = byte_at(s, q.at);
         if b != b'\\' {
-            let e = put::put_delim(err, p.errors, b'"', a);
-            return enclose(
-                6,
-                st,
-                State {
-                    at: a,
-                    tokens: o,
-                    errors: e,
-                    ok: true,
-                },
-                out,
-            );
+            return enclose(6, st, quote(b, q, err), out);
         }
-        let q = escape(
-            s,
-            n - 1,
-            State {
-                at: a + 1,
-                tokens: o,
-                errors: p.errors,
-                ok: true,
-            },
-            out,
-            err,
-        );
-        if !q.ok {
-            return q;
+        p = escape(s, n - 1, placed(q, q.at + 1), out, err);
+        if p.deep != 0 {
+            return p;
         }
-        p = q;
     }
 }
 

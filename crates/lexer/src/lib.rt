@@ -1,5 +1,7 @@
-// The lexer.
+// The lexer: jq source to a listing of its tokens, or of what is wrong with it.
+mod class;
 mod cycle;
+mod escape;
 mod num;
 mod put;
 mod scan;
@@ -7,96 +9,126 @@ mod space;
 mod sym;
 mod word;
 
-use cycle::State;
 use fields::Answer;
+use scan::State;
 
 fn whole(s: &[u8], out: &mut [u8], err: &mut [u8]) -> State {
+    let edition = [0, 1, 0, 1];
+    let o = fields::put(out, 0, &edition);
+    let e = fields::put(err, 0, &edition);
     let p = cycle::tokens(
         s,
         128,
         State {
             at: 0,
-            tokens: 4,
-            errors: 4,
-            ok: true,
+            tokens: o,
+            errors: e,
+            deep: 0,
         },
         out,
         err,
     );
-    if !p.ok {
+    if p.deep != 0 {
         return p;
     }
     let at = space::space(s, p.at);
     if at < s.len() {
-        let e = put::put_error(err, p.errors, 0x25, at);
         return State {
             at: at,
             tokens: p.tokens,
-            errors: e,
-            ok: true,
+            errors: put::put_error(err, p.errors, 0x25, at),
+            deep: 0,
         };
     }
     State {
         at: at,
         tokens: p.tokens,
         errors: p.errors,
-        ok: true,
+        deep: 0,
     }
 }
 
-pub fn lex(source: &[u8], out: &mut [u8]) -> Answer {
-    if source.len() > 32768 {
-        return Answer {
-            number: 2,
-            length: 0,
-            place: 0,
-        };
+fn refused(number: u8, place: usize) -> Answer {
+    Answer {
+        number: number,
+        length: 0,
+        place: place,
     }
-    let valid = text::prefix(source);
-    if valid < source.len() {
-        return Answer {
-            number: 3,
-            length: 0,
-            place: valid,
-        };
+}
+
+fn errors(source: &[u8], length: usize, out: &mut [u8]) -> Answer {
+    if length > out.len() {
+        return refused(7, 0);
     }
     let mut none = [0u8; 1];
-    let p = whole(source, &mut out[..0], &mut none[..0]);
-    if !p.ok {
-        return Answer {
-            number: 4,
-            length: 0,
-            place: p.at - 1,
-        };
-    }
-    if p.errors > 4 {
-        if p.errors > out.len() {
-            return Answer {
-                number: 7,
-                length: 0,
-                place: 0,
-            };
-        }
-        fields::put(out, 0, b"\x00\x01\x00\x01");
-        whole(source, &mut none[..0], out);
-        return Answer {
-            number: 1,
-            length: p.errors,
-            place: 0,
-        };
-    }
-    if p.tokens > out.len() {
-        return Answer {
-            number: 7,
-            length: 0,
-            place: 0,
-        };
-    }
-    fields::put(out, 0, b"\x00\x01\x00\x01");
-    whole(source, out, &mut none[..0]);
+    whole(source, &mut none[..0], out);
     Answer {
-        number: 0,
-        length: p.tokens,
+        number: 1,
+        length: length,
         place: 0,
     }
+}
+
+fn tokens(source: &[u8], length: usize, scratch: &mut [u8], out: &mut [u8]) -> Answer {
+    if length > out.len() {
+        return refused(7, 0);
+    }
+    let done = Answer {
+        number: 0,
+        length: length,
+        place: 0,
+    };
+    if length <= scratch.len() {
+        fields::put(out, 0, &scratch[..length]);
+        return done;
+    }
+    let mut none = [0u8; 1];
+    whole(source, out, &mut none[..0]);
+    done
+}
+
+// scratch of any size
+fn through(source: &[u8], scratch: &mut [u8], out: &mut [u8]) -> Answer {
+    let mut none = [0u8; 1];
+    let p = whole(source, scratch, &mut none[..0]);
+    if p.deep != 0 {
+        return refused(4, p.deep - 1);
+    }
+    if p.errors > 4 {
+        return errors(source, p.errors, out);
+    }
+    tokens(source, p.tokens, scratch, out)
+}
+
+fn small(source: &[u8], out: &mut [u8]) -> Answer {
+    let mut scratch = [0u8; 2048];
+    through(source, &mut scratch, out)
+}
+
+fn middle(source: &[u8], out: &mut [u8]) -> Answer {
+    let mut scratch = [0u8; 32768];
+    through(source, &mut scratch, out)
+}
+
+fn large(source: &[u8], out: &mut [u8]) -> Answer {
+    let mut scratch = [0u8; 262144];
+    through(source, &mut scratch, out)
+}
+
+pub fn lex(source: &[u8], out: &mut [u8]) -> Answer {
+    let n = source.len();
+    if n > 32768 {
+        return refused(2, 0);
+    }
+    let valid = text::prefix(source);
+    if valid < n {
+        return refused(3, valid);
+    }
+    if n <= 256 {
+        return small(source, out);
+    }
+    if n <= 4096 {
+        return middle(source, out);
+    }
+    large(source, out)
 }

@@ -1,23 +1,29 @@
-// Space.
-use scan::byte_at;
+// White space and comments.
+use crate::scan::byte_at;
+ghost use mathlib.Core.Path.{_≡_};
+ghost use Prim.Native.Nat.{_+_, _-_, _≤_, min};
+ghost use lib.ListN.{length};
+ghost use Rattle.lexer.specs.Scan.{past};
+ghost use Rattle.lexer.specs.Space.{blank, inLine, lessCR, goesOn, nextLine, space};
+ghost use Rattle.lexer.specs.Meets.{Reaches};
 
-fn ascii_blank(b: u8) -> usize {
-    if b == 32 {
-        return 1;
-    }
-    if b < 9 {
-        return 0;
-    }
-    if b > 13 {
-        return 0;
-    }
-    1
-}
-
-fn blank(s: &[u8], at: usize) -> usize {
+// How many bytes the white space character at a place has. One of ASCII is told by its byte.
+fn blank(s: &[u8], at: usize) -> usize
+    requires { ⌜ at ≤ length (now s) ⌝ }
+    ensures { λ r. ⌜ (r ≡ blank (now (s .entry)) at) × (at + r ≤ length (now (s .entry))) ⌝ }
+{
     let b = byte_at(s, at);
-    if b < 128 {
-        return ascii_blank(b);
+    if b < 0x80 {
+        if b == 0x20 {
+            return 1;
+        }
+        if b > 0x0D {
+            return 0;
+        }
+        if b >= 0x09 {
+            return 1;
+        }
+        return 0;
     }
     let c = text::char_at(s, at);
     if text::white_space(c.code) {
@@ -26,7 +32,11 @@ fn blank(s: &[u8], at: usize) -> usize {
     0
 }
 
-fn line_end(s: &[u8], at: usize) -> usize {
+// The end of the line at a place.
+fn line_end(s: &[u8], at: usize) -> usize
+    requires { ⌜ at ≤ length (now s) ⌝ }
+    ensures { λ r. ⌜ Reaches (past inLine (now (s .entry)) at) (now (s .entry)) at r ⌝ }
+{
     let mut i = at;
     while i < s.len() {
         if s[i] == 0x0A {
@@ -37,20 +47,28 @@ fn line_end(s: &[u8], at: usize) -> usize {
     i
 }
 
-fn less_cr(s: &[u8], at: usize, end: usize) -> usize {
+// The end of a line less one trailing CR.
+fn less_cr(s: &[u8], at: usize, end: usize) -> usize
+    requires { ⌜ (at ≤ end) × (end ≤ length (now s)) ⌝ }
+    ensures { λ r. ⌜ (r ≡ at + lessCR (now (s .entry)) at (end - at)) × (at ≤ r) × (r ≤ end) ⌝ }
+{
     if at < end {
-        if byte_at(s, end - 1) == 0x0D {
+        if s[end - 1] == 0x0D {
             return end - 1;
         }
     }
     end
 }
 
-fn goes_on(s: &[u8], at: usize, end: usize) -> bool {
+// Whether a line ends in an odd number of backslashes.
+fn goes_on(s: &[u8], at: usize, end: usize) -> bool
+    requires { ⌜ (at ≤ end) × (end ≤ length (now s)) ⌝ }
+    ensures { λ r. ⌜ r ≡ goesOn (now (s .entry)) at (end - at) ⌝ }
+{
     let last = less_cr(s, at, end);
     let mut i = last;
     while at < i {
-        if byte_at(s, i - 1) != 0x5C {
+        if s[i - 1] != 0x5C {
             return (last - i) % 2 == 1;
         }
         i -= 1;
@@ -58,14 +76,22 @@ fn goes_on(s: &[u8], at: usize, end: usize) -> bool {
     (last - i) % 2 == 1
 }
 
-fn next_line(s: &[u8], end: usize) -> usize {
+// The place behind the newline at a line's end.
+fn next_line(s: &[u8], end: usize) -> usize
+    requires { ⌜ end ≤ length (now s) ⌝ }
+    ensures { λ r. ⌜ Reaches (min (end + 1) (length (now (s .entry)))) (now (s .entry)) end r ⌝ }
+{
     if end < s.len() {
         return end + 1;
     }
     s.len()
 }
 
-pub fn space(s: &[u8], from: usize) -> usize {
+// White space and comments from a place on. A comment is left with the first line that does not go on.
+pub fn space(s: &[u8], from: usize) -> usize
+    requires { ⌜ from ≤ length (now s) ⌝ }
+    ensures { λ r. ⌜ Reaches (space (now (s .entry)) from) (now (s .entry)) from r ⌝ }
+{
     let mut at = from;
     'space: loop {
         let n = blank(s, at);

@@ -1,31 +1,19 @@
-// Words.
-use scan::Scan;
-use scan::byte_at;
+// Identifiers, and what may stand before one.
+use crate::class::letter;
+use crate::class::word_byte;
+use crate::put::put_error;
+use crate::scan::Scanned;
+use crate::scan::byte_at;
+ghost use Prim.Native.Nat.{_≤_};
+ghost use lib.ListN.{length};
+ghost use Rattle.lexer.specs.Word.{ident0, ident1, sigil, modThenIdent};
+ghost use Rattle.lexer.specs.Meets.{Reaches, Within, Scans};
 
-pub fn letter(b: u8) -> bool {
-    match b {
-        b'a'..=b'z' => true,
-        b'A'..=b'Z' => true,
-        b'_' => true,
-        _ => false,
-    }
-}
-
-pub fn digit(b: u8) -> bool {
-    match b {
-        b'0'..=b'9' => true,
-        _ => false,
-    }
-}
-
-fn word_byte(b: u8) -> bool {
-    if letter(b) {
-        return true;
-    }
-    digit(b)
-}
-
-pub fn ident0(s: &[u8], at: usize) -> usize {
+// [a-zA-Z0-9_]*
+pub fn ident0(s: &[u8], at: usize) -> usize
+    requires { ⌜ at ≤ length (now s) ⌝ }
+    ensures { λ r. ⌜ Reaches (ident0 (now (s .entry)) at) (now (s .entry)) at r ⌝ }
+{
     let mut i = at;
     while i < s.len() {
         if !word_byte(s[i]) {
@@ -36,32 +24,45 @@ pub fn ident0(s: &[u8], at: usize) -> usize {
     i
 }
 
-pub fn ident1(s: &[u8], at: usize, err: &mut [u8], e: usize) -> Scan {
+// [a-zA-Z_][a-zA-Z0-9_]*
+pub fn ident1(s: &[u8], at: usize, err: &mut [u8], e: usize) -> Scanned
+    requires { ⌜ Within (now s) at e ⌝ }
+    ensures { λ r. ⌜ Scans (ident1 (now (s .entry)) at) (now (s .entry)) at e 10 (now (err .entry)) (now (err .exit)) r ⌝ }
+{
     if letter(byte_at(s, at)) {
-        return Scan {
+        return Scanned {
             at: ident0(s, at + 1),
             errors: e,
         };
     }
-    Scan {
+    Scanned {
         at: at,
-        errors: put::put_error(err, e, 0x21, at),
+        errors: put_error(err, e, 0x21, at),
     }
 }
 
-fn sigil(s: &[u8], at: usize) -> usize {
+// One optional `@` or `$`.
+fn sigil(s: &[u8], at: usize) -> usize
+    requires { ⌜ at ≤ length (now s) ⌝ }
+    ensures { λ r. ⌜ Reaches (sigil (now (s .entry)) at) (now (s .entry)) at r ⌝ }
+{
     match byte_at(s, at) {
-        b'@' | b'$' => at + 1,
+        b'@' => at + 1,
+        b'$' => at + 1,
         _ => at,
     }
 }
 
-pub fn mod_then_ident(s: &[u8], at: usize, err: &mut [u8], e: usize) -> Scan {
+// A word, behind its first letter.
+pub fn mod_then_ident(s: &[u8], at: usize, err: &mut [u8], e: usize) -> Scanned
+    requires { ⌜ Within (now s) at e ⌝ }
+    ensures { λ r. ⌜ Scans (modThenIdent (now (s .entry)) at) (now (s .entry)) at e 0 (now (err .entry)) (now (err .exit)) r ⌝ }
+{
     let a = ident0(s, at);
     if byte_at(s, a) == b':' {
         if byte_at(s, a + 1) == b':' {
             return ident1(s, sigil(s, a + 2), err, e);
         }
     }
-    Scan { at: a, errors: e }
+    Scanned { at: a, errors: e }
 }
