@@ -1,0 +1,4 @@
+-- Laws that the proofs of several functions cite.
+pub mod Every
+pub mod Past
+pub mod Puts

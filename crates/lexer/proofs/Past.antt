@@ -1,0 +1,43 @@
+-- How far a run goes, step by step. Assumes nothing.
+use mathlib.Core.Path.{_≡_, refl, sym, ap, _∙_}
+use mathlib.Core.Bool.{Bool, true, false, cond}
+use mathlib.Core.List.{List, [], _∷_}
+use Prim.Native.Nat.{ℕ, zero, suc, _+_, _-_, _≤_, _<_}
+use native.Mathlib.Numerals.{add-one}
+use native.Mathlib.Nat.{add-zero}
+use native.Mathlib.Omega.{arith}
+use lib.ListN.{length, drop, getD, length-drop, drop-of-length-le}
+use lib.Seq.{drop-cons}
+use Rattle.lexer.specs.Scan.{byte, run, past}
+use Rattle.lexer.specs.Meets.{Reaches}
+
+module _ (p : ℕ → Bool) (s : List ℕ) where
+  pub past-more : (i : ℕ) → i < length s → p (byte s i) ≡ true → past p s i ≡ past p s (i + 1)
+  unfolding past run
+  past-more i h e = rw (add-one, drop-cons s i 0 h, e) (omega arith)
+
+  pub past-stop : (i : ℕ) → i < length s → p (byte s i) ≡ false → past p s i ≡ i
+  unfolding past run
+  past-stop i h e = rw (drop-cons s i 0 h, e) (omega arith)
+
+  pub past-end : (i : ℕ) → length s ≤ i → past p s i ≡ i
+  unfolding past run
+  past-end i h = rw (drop-of-length-le s h) (omega arith)
+
+  -- at the head of a loop over the run
+  pub record Going (at i : ℕ) : Type 0 where
+    pub is : past p s i ≡ past p s at
+    pub low : at ≤ i
+    pub high : i ≤ length s
+
+  pub start : (at : ℕ) → at ≤ length s → Going at at
+  start at h = record { is = refl; low = omega arith; high = h }
+
+  pub more : (at i : ℕ) → Going at i → i < length s → p (byte s i) ≡ true → Going at (i + 1)
+  more at i g h e = record { is = sym (past-more i h e) ∙ g .is; low = omega (arith, g .low); high = omega arith }
+
+  pub stop : (at i : ℕ) → Going at i → i < length s → p (byte s i) ≡ false → Reaches (past p s at) s at i
+  stop at i g h e = record { is = sym (past-stop i h e) ∙ g .is; low = g .low; high = g .high }
+
+  pub all : (at i : ℕ) → Going at i → length s ≤ i → Reaches (past p s at) s at i
+  all at i g h = record { is = sym (past-end i h) ∙ g .is; low = g .low; high = g .high }
