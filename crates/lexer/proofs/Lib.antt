@@ -2,3 +2,5 @@
 pub mod Every
 pub mod Past
 pub mod Puts
+pub mod Scans
+pub mod Words

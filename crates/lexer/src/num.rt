@@ -3,11 +3,12 @@ use crate::class::digit;
 use crate::put::put_error;
 use crate::scan::Scanned;
 use crate::scan::byte_at;
+use crate::scan::optional;
 ghost use Prim.Native.Nat.{_≤_};
 ghost use lib.ListN.{length};
 ghost use Rattle.lexer.specs.Scan.{past};
 ghost use Rattle.lexer.specs.Word.{digit};
-ghost use Rattle.lexer.specs.Num.{digits1, fraction, sign, exponent, num};
+ghost use Rattle.lexer.specs.Num.{digits1, fraction, exponent, num};
 ghost use Rattle.lexer.specs.Meets.{Reaches, Within, Scans};
 
 // [0-9]*
@@ -51,26 +52,14 @@ fn fraction(s: &[u8], at: usize, err: &mut [u8], e: usize) -> Scanned
     Scanned { at: at, errors: e }
 }
 
-// One optional sign.
-fn sign(s: &[u8], at: usize) -> usize
-    requires { ⌜ at ≤ length (now s) ⌝ }
-    ensures { λ r. ⌜ Reaches (sign (now (s .entry)) at) (now (s .entry)) at r ⌝ }
-{
-    match byte_at(s, at) {
-        b'+' => at + 1,
-        b'-' => at + 1,
-        _ => at,
-    }
-}
-
 // Optional `e` or `E`, one optional sign, digits.
 fn exponent(s: &[u8], at: usize, err: &mut [u8], e: usize) -> Scanned
     requires { ⌜ Within (now s) at e ⌝ }
     ensures { λ r. ⌜ Scans (exponent (now (s .entry)) at) (now (s .entry)) at e 0 (now (err .entry)) (now (err .exit)) r ⌝ }
 {
     match byte_at(s, at) {
-        b'e' => digits1(s, sign(s, at + 1), err, e),
-        b'E' => digits1(s, sign(s, at + 1), err, e),
+        b'e' => digits1(s, optional(s, at + 1, b'+', b'-'), err, e),
+        b'E' => digits1(s, optional(s, at + 1, b'+', b'-'), err, e),
         _ => Scanned { at: at, errors: e },
     }
 }

@@ -4,9 +4,10 @@ use crate::class::word_byte;
 use crate::put::put_error;
 use crate::scan::Scanned;
 use crate::scan::byte_at;
+use crate::scan::optional;
 ghost use Prim.Native.Nat.{_≤_};
 ghost use lib.ListN.{length};
-ghost use Rattle.lexer.specs.Word.{ident0, ident1, sigil, modThenIdent};
+ghost use Rattle.lexer.specs.Word.{ident0, ident1, modThenIdent};
 ghost use Rattle.lexer.specs.Meets.{Reaches, Within, Scans};
 
 // [a-zA-Z0-9_]*
@@ -41,18 +42,6 @@ pub fn ident1(s: &[u8], at: usize, err: &mut [u8], e: usize) -> Scanned
     }
 }
 
-// One optional `@` or `$`.
-fn sigil(s: &[u8], at: usize) -> usize
-    requires { ⌜ at ≤ length (now s) ⌝ }
-    ensures { λ r. ⌜ Reaches (sigil (now (s .entry)) at) (now (s .entry)) at r ⌝ }
-{
-    match byte_at(s, at) {
-        b'@' => at + 1,
-        b'$' => at + 1,
-        _ => at,
-    }
-}
-
 // A word, behind its first letter.
 pub fn mod_then_ident(s: &[u8], at: usize, err: &mut [u8], e: usize) -> Scanned
     requires { ⌜ Within (now s) at e ⌝ }
@@ -61,7 +50,7 @@ pub fn mod_then_ident(s: &[u8], at: usize, err: &mut [u8], e: usize) -> Scanned
     let a = ident0(s, at);
     if byte_at(s, a) == b':' {
         if byte_at(s, a + 1) == b':' {
-            return ident1(s, sigil(s, a + 2), err, e);
+            return ident1(s, optional(s, a + 2, b'@', b'$'), err, e);
         }
     }
     Scanned { at: a, errors: e }
