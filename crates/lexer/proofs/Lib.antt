@@ -4,3 +4,6 @@ pub mod Past
 pub mod Puts
 pub mod Scans
 pub mod Words
+pub mod Appends
+pub mod Nums
+pub mod Syms
