@@ -7,3 +7,6 @@ pub mod Words
 pub mod Appends
 pub mod Nums
 pub mod Syms
+pub mod Blanks
+pub mod Lines
+pub mod Skips

@@ -24,6 +24,23 @@ module _ (p : ℕ → Bool) (s : List ℕ) where
   unfolding past run
   past-end i h = rw (drop-of-length-le s h) (omega arith)
 
+  pub past-low : (i : ℕ) → i ≤ past p s i
+  unfolding past
+  past-low i = omega arith
+
+  run-short : (l : List ℕ) → run p l ≤ length l
+  unfolding run
+  run-short [] = omega arith
+  run-short (b ∷ l) = go (p b) (run-short l)
+    where
+      go : (x : Bool) → run p l ≤ length l → cond x (suc (run p l)) 0 ≤ suc (length l)
+      go true h = omega arith
+      go false h = omega arith
+
+  pub past-high : (i : ℕ) → i ≤ length s → past p s i ≤ length s
+  unfolding past
+  past-high i h = omega (arith, run-short (drop i s), length-drop i s)
+
   -- at the head of a loop over the run
   pub record Going (at i : ℕ) : Type 0 where
     pub is : past p s i ≡ past p s at

@@ -14,6 +14,9 @@ fn blank(s: &[u8], at: usize) -> usize
 {
     let b = byte_at(s, at);
     if b < 0x80 {
+        if b > 0x20 {
+            return 0;
+        }
         if b == 0x20 {
             return 1;
         }
