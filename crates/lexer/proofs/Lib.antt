@@ -10,3 +10,4 @@ pub mod Syms
 pub mod Blanks
 pub mod Lines
 pub mod Skips
+pub mod Spacing

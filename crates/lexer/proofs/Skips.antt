@@ -20,7 +20,7 @@ branch true f g h p = p refl
 branch false f g h p = refl
 
 -- an empty line does not go on
-on-some : (s : List ℕ) (at n : ℕ) → goesOn s at n ≡ true → 0 < n
+pub on-some : (s : List ℕ) (at n : ℕ) → goesOn s at n ≡ true → 0 < n
 unfolding goesOn lessCR slashes
 on-some s at zero e = absurd (let z : _≡_ {A = ℕ} 0 1 = cc in omega arith)
 on-some s at (suc n) e = omega arith
