@@ -44,3 +44,7 @@ agree f g low n e b h k = same-true (f b) (g b) (between (λ c. Bool·beq (f c) 
 -- a number that is v at each of n numbers from low on
 pub always : (v : ℕ) (f : ℕ → ℕ) (low n : ℕ) → every (λ b. eqb v (f b)) low n ≡ true → (b : ℕ) → low ≤ b → b < low + n → v ≡ f b
 always v f low n e b h k = eqb-true v (f b) (between (λ c. eqb v (f c)) low n e b h k)
+
+-- two numbers that agree at each of n numbers from low on
+pub alike : (f g : ℕ → ℕ) (low n : ℕ) → every (λ b. eqb (f b) (g b)) low n ≡ true → (b : ℕ) → low ≤ b → b < low + n → f b ≡ g b
+alike f g low n e b h k = eqb-true (f b) (g b) (between (λ c. eqb (f c) (g c)) low n e b h k)

@@ -11,3 +11,6 @@ pub mod Blanks
 pub mod Lines
 pub mod Skips
 pub mod Spacing
+pub mod Readings
+pub mod Hexes
+pub mod Escapes

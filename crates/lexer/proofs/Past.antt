@@ -8,6 +8,8 @@ use native.Mathlib.Nat.{add-zero}
 use native.Mathlib.Omega.{arith}
 use lib.ListN.{length, drop, getD, length-drop, drop-of-length-le}
 use lib.Seq.{drop-cons}
+use lib.Dec.{ltb}
+use borrow.Author.Tests.{ltb-true, ltb-false}
 use Rattle.lexer.specs.Scan.{byte, run, past}
 use Rattle.lexer.specs.Meets.{Reaches}
 
@@ -23,6 +25,14 @@ module _ (p : ℕ → Bool) (s : List ℕ) where
   pub past-end : (i : ℕ) → length s ≤ i → past p s i ≡ i
   unfolding past run
   past-end i h = rw (drop-of-length-le s h) (omega arith)
+
+  -- whether or not there is a byte
+  pub past-here : (i : ℕ) → p (byte s i) ≡ false → past p s i ≡ i
+  past-here i e = go (ltb i (length s)) refl
+    where
+      go : (x : Bool) → ltb i (length s) ≡ x → past p s i ≡ i
+      go true l = past-stop i (ltb-true i (length s) l) e
+      go false l = past-end i (ltb-false i (length s) l)
 
   pub past-low : (i : ℕ) → i ≤ past p s i
   unfolding past

@@ -3,9 +3,16 @@ use crate::put::put_char;
 use crate::put::put_error;
 use crate::scan::State;
 use crate::scan::byte_at;
+ghost use mathlib.Core.Path.{_≡_};
+ghost use Prim.Native.Nat.{_+_, _≤_, _<_};
+ghost use lib.ListN.{length};
+ghost use Rattle.lexer.specs.Escape.{named, surrogate, unicode, simple};
+ghost use Rattle.lexer.specs.Meets.{Hexed, Coded, Ready, Wrongs, Chars, Reads};
 
 // The value of a hex digit; 16 where the byte is none.
-fn hex(b: u8) -> usize {
+fn hex(b: u8) -> usize
+    ensures { λ r. ⌜ Hexed b r ⌝ }
+{
     if b < b'0' {
         return 16;
     }
@@ -27,13 +34,16 @@ fn hex(b: u8) -> usize {
     16
 }
 
-struct Code {
-    at: usize,
-    code: usize,
+// Hex digits that were read, four at the most: the place behind them, and their number.
+pub struct Code {
+    pub at: usize,
+    pub code: usize,
 }
 
-// Four hex digits: behind them, and their number; or the place of what is none
-fn hexes(s: &[u8], at: usize) -> Code {
+fn hexes(s: &[u8], at: usize) -> Code
+    requires { ⌜ at ≤ length (now s) ⌝ }
+    ensures { λ r. ⌜ Coded (now (s .entry)) at r ⌝ }
+{
     let mut code = 0;
     let mut i = 0;
     while i < 4 {
@@ -41,26 +51,33 @@ fn hexes(s: &[u8], at: usize) -> Code {
         if v == 16 {
             return Code {
                 at: at + i,
-                code: 0,
+                code: code,
             };
         }
         code = code * 16 + v;
         i += 1;
     }
     Code {
-        at: at + 4,
+        at: at + i,
         code: code,
     }
 }
 
-fn surrogate(code: usize) -> bool {
+fn surrogate(code: usize) -> bool
+    ensures { λ r. ⌜ r ≡ surrogate code ⌝ }
+{
     if code < 0xD800 {
         return false;
     }
     code <= 0xDFFF
 }
 
-fn wrong(st: State, tag: u8, at: usize, err: &mut [u8]) -> State {
+// An error where the state stands.
+fn wrong(st: State, tag: u8, err: &mut [u8]) -> State
+    requires { ⌜ st .errors ≤ 1048576 ⌝ }
+    ensures { λ r. ⌜ Wrongs tag st (now (err .entry)) (now (err .exit)) r ⌝ }
+{
+    let at = st.at;
     State {
         at: at,
         tokens: st.tokens,
@@ -69,27 +86,45 @@ fn wrong(st: State, tag: u8, at: usize, err: &mut [u8]) -> State {
     }
 }
 
-fn found(st: State, code: usize, at: usize, out: &mut [u8]) -> State {
+// A character that ends where the state stands.
+fn found(st: State, code: usize, out: &mut [u8]) -> State
+    requires { ⌜ (st .tokens ≤ 1048576) × (code < 65536) ⌝ }
+    ensures { λ r. ⌜ Chars code st (now (out .entry)) (now (out .exit)) r ⌝ }
+{
     State {
-        at: at,
+        at: st.at,
         tokens: put_char(out, st.tokens, code),
         errors: st.errors,
         deep: 0,
     }
 }
 
-fn unicode(s: &[u8], st: State, at: usize, out: &mut [u8], err: &mut [u8]) -> State {
+// Behind the `u`.
+fn unicode(s: &[u8], st: State, out: &mut [u8], err: &mut [u8]) -> State
+    requires { ⌜ Ready (now s) st ⌝ }
+    ensures { λ r. ⌜ Reads (unicode (now (s .entry)) (st .at)) (now (s .entry)) 0 10 st (now (out .entry)) (now (out .exit)) (now (err .entry)) (now (err .exit)) r ⌝ }
+{
+    let at = st.at;
     let c = hexes(s, at);
+    let behind = State {
+        at: c.at,
+        tokens: st.tokens,
+        errors: st.errors,
+        deep: 0,
+    };
     if c.at < at + 4 {
-        return wrong(st, 0x24, c.at, err);
+        return wrong(behind, 0x24, err);
     }
     if surrogate(c.code) {
-        return wrong(st, 0x24, at, err);
+        return wrong(st, 0x24, err);
     }
-    found(st, c.code, c.at, out)
+    found(behind, c.code, out)
 }
 
-fn named(b: u8) -> usize {
+// The character that a backslash and the byte stand for; 0 where they stand for none.
+fn named(b: u8) -> usize
+    ensures { λ r. ⌜ (r ≡ named b) × (r < 65536) ⌝ }
+{
     match b {
         b'n' => 0x0A,
         b'"' => 0x22,
@@ -99,19 +134,35 @@ fn named(b: u8) -> usize {
         b'/' => 0x2F,
         b'b' => 0x08,
         b'f' => 0x0C,
-        _ => 0,
+        _ => 0x00,
     }
 }
 
-pub fn simple(s: &[u8], st: State, out: &mut [u8], err: &mut [u8]) -> State {
+// Behind the backslash.
+pub fn simple(s: &[u8], st: State, out: &mut [u8], err: &mut [u8]) -> State
+    requires { ⌜ Ready (now s) st ⌝ }
+    ensures { λ r. ⌜ Reads (simple (now (s .entry)) (st .at)) (now (s .entry)) 0 10 st (now (out .entry)) (now (out .exit)) (now (err .entry)) (now (err .exit)) r ⌝ }
+{
     let at = st.at;
     let b = byte_at(s, at);
     if b == b'u' {
-        return unicode(s, st, at + 1, out, err);
+        let behind = State {
+            at: at + 1,
+            tokens: st.tokens,
+            errors: st.errors,
+            deep: 0,
+        };
+        return unicode(s, behind, out, err);
     }
-    let c = named(b);
-    if c == 0 {
-        return wrong(st, 0x23, at, err);
+    let code = named(b);
+    if code == 0 {
+        return wrong(st, 0x23, err);
     }
-    found(st, c, at + 1, out)
+    let behind = State {
+        at: at + 1,
+        tokens: st.tokens,
+        errors: st.errors,
+        deep: 0,
+    };
+    found(behind, code, out)
 }
