@@ -19,7 +19,7 @@ use Rattle.lexer.specs.Sym.{operator, follows, dot, sym}
 use Rattle.lexer.specs.Kind.{kind, plain}
 use Rattle.lexer.specs.Escape.{named, hexDigit, hex, hexes, surrogate, unicode, simple}
 use Rattle.lexer.specs.Read.{Read, read, deep, after, andThen, enclose}
-use Rattle.lexer.specs.Lex.{leafAt, closing, close, textByte, text, tokens, rest, whole}
+use Rattle.lexer.specs.Lex.{leafAt, closing, close, textByte, text, quote, tokens, rest, whole}
 use Rattle.lexer.specs.Listing.{pair, tokensBytes, errorTag, opener, errorBytes, errorsBytes, edition}
 use Rattle.lexer.specs.Lexing.{listed, lexing}
 
@@ -51,7 +51,7 @@ pub bench :
     ∷ bad (missing (closer 0x28) 1 ∷ missing any 1 ∷ [])
     ∷ bad (missing Expect.ident 3 ∷ [])
     ∷ [])
-unfolding shown whole tokens rest leafAt closing close textByte text andThen after enclose join kind plain letter digit wordByte operator follows run past optional space skip blank
+unfolding shown whole tokens rest leafAt closing close textByte text quote andThen after enclose join kind plain letter digit wordByte operator follows run past optional space skip blank
     seqLen scalar table bits whiteSpace spaces expected identEnd ident1 modThenIdent digits1 fraction exponent num dot sym named hexDigit hex hexes surrogate unicode simple
 bench = refl
 
@@ -64,6 +64,6 @@ pub parens :
     ∷ 0x05 ∷ 0x04 ∷ 0x00 ∷ 0x01 ∷ 0x00 ∷ 0x01 ∷ 0x00
     ∷ 0x09 ∷ 0x00 ∷ 0x00 ∷ [])
 unfolding lexing listed validPrefix passing edition tokensBytes pair field number
-    whole tokens rest leafAt closing close textByte text andThen after enclose join kind plain letter digit wordByte operator follows run past optional space skip blank
+    whole tokens rest leafAt closing close textByte text quote andThen after enclose join kind plain letter digit wordByte operator follows run past optional space skip blank
     seqLen scalar table bits whiteSpace spaces expected identEnd ident1 modThenIdent digits1 fraction exponent num dot sym named hexDigit hex hexes surrogate unicode simple
 parens = refl

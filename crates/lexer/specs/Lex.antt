@@ -31,6 +31,10 @@ textByte b = not (oneOf (0x5C ∷ 0x22 ∷ []) b)
 unfoldable pub text : ℕ → ℕ → Tokens
 text from to = cond (eqb to from) none (one (leaf 0x08 from (to - from)))
 
+-- the closing quote; ".. End of input is Delim with `\"`."
+unfoldable pub quote : List ℕ → ℕ → Read
+quote s at = cond (eqb (byte s at) 0x22) (nothing (at + 1)) (wrong (closer 0x22) at)
+
 unfoldable mutual
   pub tokens : ℕ → List ℕ → ℕ → ℕ → Read
   tokens zero s n at = deep at
@@ -59,15 +63,13 @@ unfoldable mutual
       let inside = enclose 0x06 at (parts k s (n - 1) (at + 1)) in
       cond (eqb n 0) (deep at) inside
 
-  -- "String: nonempty runs free of `\` and `\"`; escapes .. End of input is Delim with `\"`."
+  -- "String: nonempty runs free of `\` and `\"`; escapes .."
   pub parts : ℕ → List ℕ → ℕ → ℕ → Read
   parts zero s n at = deep at
   parts (suc k) s n at =
       let a = past textByte s at in
       let escaped = andThen (escape k s n (a + 1)) (λ b. parts k s n b) in
-      after (text at a) []
-      (cond (eqb (byte s a) 0x22) (nothing (a + 1))
-      (cond (eqb (byte s a) 0x5C) escaped (wrong (closer 0x22) a)))
+      after (text at a) [] (cond (eqb (byte s a) 0x5C) escaped (quote s a))
 
   -- ".. `\(` block"
   pub escape : ℕ → List ℕ → ℕ → ℕ → Read

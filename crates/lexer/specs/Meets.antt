@@ -4,12 +4,14 @@ use mathlib.Core.List.{List, [], _∷_}
 use Prim.Native.Nat.{ℕ, suc, _+_, _-_, _*_, _≤_, _<_, min}
 use lib.ListN.{length}
 use lib.Dec.{ltb}
+use Rattle.fields.specs.Field.{field}
 use Rattle.fields.specs.Room.{overlay}
 use Rattle.lexer.specs.Token.{Tokens, char, Error, Expect, missing}
 use Rattle.lexer.specs.Scan.{byte, past, Scan}
 use Rattle.lexer.specs.Escape.{hexDigit, hex, hexes}
-use Rattle.lexer.specs.Listing.{errorTag, opener, tokensBytes, errorsBytes}
+use Rattle.lexer.specs.Listing.{pair, errorTag, opener, tokensBytes, errorsBytes}
 use Rattle.lexer.specs.Read.{Read, read, deep, found, wrong}
+use Rattle.lexer.specs.Lex.{textByte, text, quote}
 use Rattle.lexer.specs.declared.scan.Scanned.{Scanned}
 use Rattle.lexer.specs.declared.scan.State.{State}
 use Rattle.lexer.specs.declared.escape.Code.{Code}
@@ -119,3 +121,27 @@ pub record Chars (code : ℕ) (st : State) (d d′ : List ℕ) (r : State) : Typ
   pub at : r .at ≡ st .at
   pub tokens : r .tokens ≡ st .tokens + 7
   pub errors : r .errors ≡ st .errors
+
+-- a text part, put where it is not empty
+pub record Texts (s : List ℕ) (st : State) (d d′ : List ℕ) (r : State) : Type 0 where
+  pub fine : r .deep ≡ 0
+  pub is : r .at ≡ past textByte s (st .at)
+  pub put : Put d (st .tokens) (tokensBytes 2 (text (st .at) (r .at))) d′ (r .tokens)
+  pub errors : r .errors ≡ st .errors
+  pub low : st .at ≤ r .at
+  pub high : r .at ≤ length s
+  pub tokens : r .tokens + 10 * st .at ≤ st .tokens + 10 * r .at
+
+-- a closing quote, or its error
+pub record Quotes (s : List ℕ) (st : State) (x x′ : List ℕ) (r : State) : Type 0 where
+  pub is : (d : List ℕ) → Is (quote s (st .at)) (st .tokens) (st .errors) d d x x′ r
+  pub fine : r .deep ≡ 0
+  pub paid : Paid s 0 10 st r
+
+-- a string or block that began at st, of what p found in it: its end, and its record in the seven bytes before the members
+pub record Encloses (tag : ℕ) (st p : State) (d d′ : List ℕ) (r : State) : Type 0 where
+  pub fine : r .deep ≡ 0
+  pub at : r .at ≡ p .at
+  pub tokens : r .tokens ≡ p .tokens + 3
+  pub errors : r .errors ≡ p .errors
+  pub room : d′ ≡ overlay (overlay d (p .tokens) (field 0x09 [])) (st .tokens) (pair 2 tag (st .at) (p .at - st .at))
