@@ -1,0 +1,4 @@
+pub mod Rows
+pub mod Operators
+pub mod Turns
+pub mod Whole
