@@ -187,12 +187,12 @@ module _ (row : List ℕ) where
   skip i j h = simp (le-ltb _ _ h)
 
   -- no earlier operator's row holds i
-  none : (i k : ℕ) → ((j : ℕ) → j < k → rightmost row j ≤ i) → nearest row i k ≡ 0
+  pub none : (i k : ℕ) → ((j : ℕ) → j < k → rightmost row j ≤ i) → nearest row i k ≡ 0
   none i zero f = unfold nearest in refl
   none i (suc k) f = skip i k (f k (omega arith)) ∙ none i k (λ j h. f j (omega arith))
 
   -- the row of o holds i, and that of no operator between
-  holds : (i o k : ℕ) → i < rightmost row o → o < k → ((j : ℕ) → o < j → j < k → rightmost row j ≤ i) → nearest row i k ≡ suc o
+  pub holds : (i o k : ℕ) → i < rightmost row o → o < k → ((j : ℕ) → o < j → j < k → rightmost row j ≤ i) → nearest row i k ≡ suc o
   holds i o zero h b f = absurd (omega arith)
   holds i o (suc k) h b f =
       ⊎-elim
