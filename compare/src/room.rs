@@ -138,8 +138,10 @@ pub struct Comparison<'a> {
     subject: &'a Subject,
     ours: Entry,
     listing: Vec<u8>,
-    /// Two patterns, in turn, no byte of which is equal: no stray byte hides in both.
+    /// Two patterns that differ in every byte: a stray byte hides in one of them at most. The next
+    /// input gets the other one in a room of the same kind.
     rooms: [Room; 2],
+    inputs: u64,
     cases: u64,
     pub mismatches: u64,
     answers: [u64; 256],
@@ -153,6 +155,7 @@ impl<'a> Comparison<'a> {
             ours: subject.ours?,
             listing: Vec::new(),
             rooms: [Room::new(0), Room::new(0xff)],
+            inputs: 0,
             cases: 0,
             mismatches: 0,
             answers: [0; 256],
@@ -163,6 +166,7 @@ impl<'a> Comparison<'a> {
     pub fn input(&mut self, input: &[u8]) {
         let mut listing = std::mem::take(&mut self.listing);
         let due = (self.subject.rust)(input, &mut listing);
+        self.inputs += 1;
         let more = 1 + self.cases as usize % 61;
         if due.is_listing() {
             self.case(input, due, &listing, Lent::OneShort);
@@ -181,7 +185,7 @@ impl<'a> Comparison<'a> {
         let expected = due.in_room(listing.len(), length);
         let written = &listing[..expected.length as usize];
 
-        let room = &mut self.rooms[self.cases as usize % 2];
+        let room = &mut self.rooms[(self.inputs + self.cases) as usize % 2];
         let answer = Answer::unpack(library::call(self.ours, input, room.lend(length)));
         let fault = room.fault(length, written);
 
