@@ -103,3 +103,7 @@ module _ (row : List ℕ) (f : Formed row) where
             puts = turn row from i next d₀ d d₁ d₂ (g .low) passed (g .puts) (c .puts) (e ∙ ap (λ (x : List ℕ). overlay d₁ (4 + 7 * i) x) own);
             size = ap length e ∙ length-overlay _ _ _ ∙ l ∙ g .size;
           }
+
+  -- no operator behind i stands in its row
+  pub alone : (at m : ℕ) (d : List ℕ) → at ≤ count row → tight row at m ≡ false → Climbs row at m at d d
+  alone at m d h t = done 0 at m d at d (begin row at m d h) t

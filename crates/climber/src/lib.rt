@@ -65,9 +65,15 @@ fn climb1(row: &[u8], first: usize, from: usize, min: usize, out: &mut [u8]) -> 
 {
     let mut i = from;
     while tight(row, i, min) {
-        let next = climb1(row, i + 1, i + 1, least(row, i), out);
-        fields::put_pair(out, 4 + 7 * i, 0x0B, first, next);
-        i = next;
+        let least = least(row, i);
+        if tight(row, i + 1, least) {
+            let next = climb1(row, i + 1, i + 1, least, out);
+            fields::put_pair(out, 4 + 7 * i, 0x0B, first, next);
+            i = next;
+        } else {
+            fields::put_pair(out, 4 + 7 * i, 0x0B, first, i + 1);
+            i = i + 1;
+        }
     }
     i
 }

@@ -46,12 +46,11 @@ pub fn put(out: &mut [u8], at: usize, bytes: &[u8]) -> usize
     end
 }
 
-// Puts a field of two numbers: a record of 7 bytes.
-pub fn put_pair(out: &mut [u8], at: usize, tag: u8, a: usize, b: usize) -> usize
-    requires { ⌜ at + 7 < 2 ^ 64 ⌝ }
-    ensures { λ r. ⌜ (r ≡ at + 7) × (now (out .exit) ≡ overlay (now (out .entry)) at (field tag (number 2 a ++ number 2 b))) ⌝ }
+// The bytes of a field of two numbers.
+fn pair(tag: u8, a: usize, b: usize) -> [u8; 7]
+    ensures { λ r. ⌜ r ≡ field tag (number 2 a ++ number 2 b) ⌝ }
 {
-    let bytes = [
+    [
         tag,
         4,
         0,
@@ -59,6 +58,24 @@ pub fn put_pair(out: &mut [u8], at: usize, tag: u8, a: usize, b: usize) -> usize
         (a / 256 % 256) as u8,
         (b % 256) as u8,
         (b / 256 % 256) as u8,
-    ];
+    ]
+}
+
+// Puts a field of two numbers: a record of 7 bytes. Where it fits, which is nearly always, each byte is stored at once.
+pub fn put_pair(out: &mut [u8], at: usize, tag: u8, a: usize, b: usize) -> usize
+    requires { ⌜ at + 7 < 2 ^ 64 ⌝ }
+    ensures { λ r. ⌜ (r ≡ at + 7) × (now (out .exit) ≡ overlay (now (out .entry)) at (field tag (number 2 a ++ number 2 b))) ⌝ }
+{
+    if at + 7 <= out.len() {
+        out[at] = tag;
+        out[at + 1] = 4;
+        out[at + 2] = 0;
+        out[at + 3] = (a % 256) as u8;
+        out[at + 4] = (a / 256 % 256) as u8;
+        out[at + 5] = (b % 256) as u8;
+        out[at + 6] = (b / 256 % 256) as u8;
+        return at + 7;
+    }
+    let bytes = pair(tag, a, b);
     put(out, at, &bytes)
 }
