@@ -1,8 +1,8 @@
 -- The character at a place, by the length of its sequence.
 -- Assumes nothing.
-use mathlib.Core.Path.{_≡_, refl, sym, ap, _∙_}
+use mathlib.Core.Path.{_≡_, refl, sym, ap}
 use mathlib.Core.List.{List}
-use Prim.Native.Nat.{ℕ, zero, suc, _+_, _-_, _*_, _%_, _≤_, _<_}
+use Prim.Native.Nat.{ℕ, _+_, _-_, _*_, _%_, _≤_, _<_}
 use native.Mathlib.Nat.{add-zero}
 use native.Mathlib.Omega.{arith}
 use lib.ListN.{length, drop, getD}
@@ -48,6 +48,18 @@ char-fits s at = seq-fits s at
 
 pub char-few : (s : List ℕ) (at : ℕ) → charAt s at .len ≤ 4
 char-few s at = seqLen-few (drop at s)
+
+-- the same of an answer of `char_at`, in parts
+pub record IsChar (s : List ℕ) (at : ℕ) (r : Char) : Type 0 where
+  pub code : r .code ≡ scalar (drop at s)
+  pub len : r .len ≡ seqLen (drop at s)
+  pub fits : r .len ≤ length s - at
+  pub few : r .len ≤ 4
+
+pub is-char : (s : List ℕ) (at : ℕ) (r : Char) → r ≡ charAt s at → IsChar s at r
+is-char s at r e =
+    let l : r .len ≡ seqLen (drop at s) = ap (λ (c : Char). c .len) e in
+    record { code = ap (λ (c : Char). c .code) e; len = l; fits = omega (arith, seq-fits s at); few = omega (arith, seqLen-few (drop at s)) }
 
 pub char-ascii : (s : List ℕ) (at : ℕ) → at < length s → getD s at 0 < 128 → char (getD s at 0) 1 ≡ charAt s at
 char-ascii s at h a = char-one s at 1 (getD s at 0) (sym (seq-ascii s at h a)) refl (omega arith)

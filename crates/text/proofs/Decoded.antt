@@ -1,15 +1,15 @@
 -- A well-formed sequence is the bytes of one character: what Table 3-7 takes is what Table 3-6 makes of a scalar value, and nothing else.
 -- Assumes nothing.
-use mathlib.Core.Path.{_≡_, refl, sym, ap, _∙_}
-use mathlib.Core.Bool.{Bool, true, false, cond, _&&_, false≢true}
-use mathlib.Core.List.{List, [], _∷_, _++_}
+use mathlib.Core.Path.{_≡_, refl, _∙_}
+use mathlib.Core.Bool.{Bool, true, false, cond, false≢true}
+use mathlib.Core.List.{List, [], _∷_}
 use Prim.Native.Nat.{ℕ, zero, suc, _+_, _*_, _/_, _%_, _≤_, _<_}
 use native.Mathlib.Omega.{arith}
-use lib.ListN.{length, take, getD}
+use lib.ListN.{length, take}
 use lib.Dec.{leb}
 use borrow.Author.Tests.{leb-true}
 use Rattle.text.specs.Ranges.{Range, _‥_, within, starts}
-use Rattle.text.specs.Utf8.{Row, table, lenIn, seqLen, bits, scalar, isScalar, utf8, two, three, four}
+use Rattle.text.specs.Utf8.{Row, table, lenIn, seqLen, bits, isScalar, utf8, two, three, four}
 use Rattle.text.proofs.Rows.{and-left, and-right}
 use Rattle.text.proofs.Encoded.{AllIn, laterOf}
 use Rattle.text.proofs.Bytes.{scalar-low, scalar-high, utf8-one, utf8-two, utf8-three, utf8-three-high, utf8-four}

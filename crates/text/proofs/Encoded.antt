@@ -1,14 +1,14 @@
 -- Decoding the bytes of a character gives the character back: a case for each row of Table 3-7.
 -- Assumes nothing.
-use mathlib.Core.Path.{_≡_, refl, sym, ap, _∙_}
-use mathlib.Core.Bool.{Bool, true, false, cond, _&&_}
+use mathlib.Core.Path.{_≡_, refl, _∙_}
+use mathlib.Core.Bool.{true}
 use mathlib.Core.Logic.{⊎-elim}
 use mathlib.Core.List.{List, [], _∷_, _++_}
 use Prim.Native.Nat.{ℕ, zero, suc, _+_, _*_, _/_, _%_, _≤_, _<_}
 use native.Mathlib.Omega.{arith}
-use lib.ListN.{length, getD}
+use lib.ListN.{length}
 use borrow.Author.Tests.{le-leb}
-use Rattle.text.specs.Ranges.{Range, within, starts}
+use Rattle.text.specs.Ranges.{Range, starts}
 use Rattle.text.specs.Utf8.{Row, table, lenIn, seqLen, bits, scalar, isScalar, utf8, one, two, three, four}
 use Rattle.text.proofs.Rows.{Leads, here, above}
 use Rattle.text.proofs.Bytes.{side, scalar-side, utf8-one, utf8-two, utf8-three, utf8-three-high, utf8-four}

@@ -2,12 +2,15 @@
 -- Assumes nothing.
 use mathlib.Core.Path.{_≡_, refl, sym, ap, _∙_}
 use mathlib.Core.List.{List, [], _∷_, _++_}
-use Prim.Native.Nat.{ℕ, zero, suc, _+_, _-_, _≤_, _<_}
+use Prim.Native.Nat.{ℕ, zero, suc, _+_, _/_, _≤_, _<_}
+use native.Mathlib.Nat.{add-zero, add-suc}
+use native.Mathlib.Numerals.{add-one}
 use native.Mathlib.Omega.{arith}
-use lib.ListN.{length, take, drop, getD, length-drop, length-append, take-append-drop}
+use lib.ListN.{length, take, drop, getD, length-drop, take-append-drop}
 use lib.Seq.{take-add, drop-at, length-take-le, drop-append-le, drop-drop, take-length}
 use Rattle.text.specs.Utf8.{seqLen}
-use Rattle.text.specs.Valid.{Valid, none, more, oneOf, passing, validPrefix, Along, Longest}
+use Rattle.text.specs.Valid.{Valid, none, more, oneOf, passing, validPrefix, Longest}
+use Rattle.text.specs.Along.{Along, highs}
 use Rattle.text.proofs.Rows.{seqLen-more, seqLen-take, seqLen-fits, seq-ascii}
 
 oneOf-le : (m l : ℕ) (f : ℕ → ℕ) → ((n : ℕ) → f n ≤ l) → oneOf m f ≤ suc l
@@ -130,6 +133,24 @@ pub along-ascii : (s : List ℕ) (at i : ℕ) → Along s at i → i < length s 
 along-ascii s at i a h b =
     let e : validPrefix (drop i s) ≡ 1 + validPrefix (drop (i + 1) s) = prefix-ascii s i h b in
     record { same = omega (arith, a .same); low = omega arith; high = omega arith }
+
+pub highs-more : (s : List ℕ) (at n k : ℕ) → n ≡ highs s at k → n + getD s (at + k) 0 / 128 ≡ highs s at (k + 1)
+unfolding highs
+highs-more s at n k e = rw (add-one, e)
+
+along-highs : (s : List ℕ) (at i n : ℕ) → Along s at i → i + n ≤ length s → highs s i n ≡ 0 → Along s at (i + n)
+unfolding highs
+along-highs s at i zero a h e = rw add-zero a
+along-highs s at i (suc n) a h e =
+    rw (add-suc, ← add-one)
+    (along-ascii s at (i + n) (along-highs s at i n a (omega arith) (omega arith)) (omega arith) (omega arith))
+
+pub along-block : (s : List ℕ) (at i n r : ℕ) → Along s at i → i + n ≤ length s → r ≡ highs s i n → r ≡ 0 → Along s at (i + n)
+along-block s at i n r a h e z = along-highs s at i n a h (cc)
+
+pub along-along : (s : List ℕ) (at i r : ℕ) → Along s at i → Along s i r → Along s at r
+along-along s at i r a b =
+    record { same = a .same ∙ b .same; low = omega (arith, a .low, b .low); high = b .high }
 
 pub along-more : (s : List ℕ) (at i n r : ℕ) → Along s at i → n ≡ seqLen (drop i s) → (n ≡ 0 → ⊥) → Along s (i + n) r → Along s at r
 along-more s at i n r a e z b =

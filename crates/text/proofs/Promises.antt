@@ -1,16 +1,16 @@
 -- What `text` promises: the theorems that a reader signs for. Each is proved below this page, and cited here.
 -- Assumes nothing.
-use mathlib.Core.Path.{_≡_, sym, _∙_}
-use mathlib.Core.Bool.{true, _&&_}
+use mathlib.Core.Path.{_≡_}
+use mathlib.Core.Bool.{true}
 use mathlib.Core.Logic.{_↔_}
-use mathlib.Core.List.{List, [], _∷_, _++_}
-use Prim.Native.Nat.{ℕ, suc, _≤_, _<_}
-use lib.ListN.{length, take}
+use mathlib.Core.List.{List, _++_}
+use Prim.Native.Nat.{ℕ}
+use lib.ListN.{length}
 use Rattle.text.specs.Utf8.{seqLen, scalar, isScalar, utf8}
-use Rattle.text.specs.Valid.{Valid, Longest, validPrefix, textOf, Characters}
+use Rattle.text.specs.Valid.{Valid, Longest, validPrefix, Characters}
 use Rattle.text.proofs.Longest.{prefix-is, prefix-one, prefix-whole, whole-valid}
 use Rattle.text.proofs.Texts.{valid-text, text-valid}
-use Rattle.text.proofs.Encoded.{Back, back}
+use Rattle.text.proofs.Encoded.{back}
 
 -- "3: source not UTF-8; place: length of longest valid prefix". `prefix` answers `validPrefix`: the first that many bytes are valid,
 -- no more are, and no other number is such a length.

@@ -2,7 +2,6 @@
 use mathlib.Core.Path.{_≡_, refl}
 use mathlib.Core.Bool.{true, false}
 use mathlib.Core.List.{[], _∷_}
-use Prim.Native.Nat.{ℕ}
 use Rattle.text.specs.Utf8.{table, seqLen, bits, scalar, scalars, isScalar, encode, utf8}
 use Rattle.text.specs.Valid.{passing, validPrefix}
 use Rattle.text.specs.Space.{spaces, whiteSpace}

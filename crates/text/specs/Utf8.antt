@@ -1,7 +1,7 @@
 -- UTF-8: the well-formed byte sequences, the character that one stands for, and the bytes of a character.
 -- Numbers and names are those of the Unicode Standard, chapter 3.
 use Prim.Native.Nat.{ℕ, zero, suc, _+_, _*_, _/_, _%_}
-use mathlib.Core.Bool.{Bool, true, false, cond}
+use mathlib.Core.Bool.{Bool, cond}
 use mathlib.Core.List.{List, [], _∷_}
 use lib.ListN.{length, getD, drop}
 use lib.Dec.{ltb}

@@ -1,12 +1,12 @@
 -- Valid UTF-8, and the longest valid prefix.
 use mathlib.Core.Path.{_≡_}
-use Prim.Native.Nat.{ℕ, zero, suc, _+_, _≤_}
+use Prim.Native.Nat.{ℕ, zero, suc, _≤_}
 use mathlib.Core.Bool.{Bool, true, _&&_}
 use mathlib.Core.List.{List, [], _∷_, _++_}
 use lib.ListN.{length, take, drop}
 use Rattle.text.specs.Utf8.{seqLen, isScalar, utf8}
 
--- a row of well-formed sequences, and nothing else
+-- "source not UTF-8", "texts are UTF-8": a list is UTF-8 if it is a row of the sequences of Table 3-7, and nothing else
 pub data Valid : List ℕ → Type 0 where
   none : Valid []
   more : (s : List ℕ) (n : ℕ) → seqLen s ≡ suc n → Valid (drop (suc n) s) → Valid s
@@ -45,9 +45,3 @@ pub record Characters (s : List ℕ) : Type 0 where
   pub chars : List ℕ
   pub all : allScalar chars ≡ true
   pub are : s ≡ textOf chars
-
--- at and r are places of the list, in this order, and the valid bytes from at end where those from r end
-pub record Along (s : List ℕ) (at r : ℕ) : Type 0 where
-  pub same : at + validPrefix (drop at s) ≡ r + validPrefix (drop r s)
-  pub low : at ≤ r
-  pub high : r ≤ length s

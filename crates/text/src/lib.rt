@@ -7,7 +7,8 @@ ghost use Prim.Native.Nat.{_+_, _-_, _%_, _^_, _<_, _≤_};
 ghost use lib.ListN.{length, drop, getD};
 ghost use Rattle.text.specs.Ranges.{_‥_, starts};
 ghost use Rattle.text.specs.Utf8.{seqLen, charAt, isScalar, utf8, two, three, four};
-ghost use Rattle.text.specs.Valid.{validPrefix, Along};
+ghost use Rattle.text.specs.Valid.{validPrefix};
+ghost use Rattle.text.specs.Along.{Along, highs};
 ghost use Rattle.text.specs.Space.{whiteSpace};
 
 // A character that was read: its code point, and how many bytes it takes. A length of 0 says that there was none.
@@ -83,6 +84,34 @@ fn seq_len(s: &[u8], at: usize) -> usize
     }
 }
 
+// How many of the 64 bytes from `at` on are not ASCII: a loop with no way out, which compiles to a few wide instructions.
+fn high(s: &[u8], at: usize) -> u8
+    requires { ⌜ at + 64 ≤ length (now s) ⌝ }
+    ensures { λ r. ⌜ r ≡ highs (now (s .entry)) at 64 ⌝ }
+{
+    let mut n: u8 = 0;
+    let mut k: usize = 0;
+    while k < 64 {
+        n += s[at + k] / 128;
+        k += 1;
+    }
+    n
+}
+
+// The place after the blocks of 64 ASCII characters that the text begins with.
+fn skip(s: &[u8]) -> usize
+    ensures { λ r. ⌜ Along (now (s .entry)) 0 r ⌝ }
+{
+    let mut i = 0;
+    while 64 <= s.len() - i {
+        if high(s, i) != 0 {
+            return i;
+        }
+        i += 64;
+    }
+    i
+}
+
 // The place after the ASCII characters that start at `at`.
 fn ascii(s: &[u8], at: usize) -> usize
     requires { ⌜ at ≤ length (now s) ⌝ }
@@ -98,11 +127,11 @@ fn ascii(s: &[u8], at: usize) -> usize
     i
 }
 
-// How many bytes of `s` are valid UTF-8.
+// How many bytes of `s` are valid UTF-8. Most sources are ASCII whole, and are passed by blocks.
 pub fn prefix(s: &[u8]) -> usize
     ensures { λ r. ⌜ r ≡ validPrefix (now (s .entry)) ⌝ }
 {
-    let mut i = ascii(s, 0);
+    let mut i = ascii(s, skip(s));
     loop {
         let n = seq_len(s, i);
         if n == 0 {

@@ -1,7 +1,9 @@
+-- `text::ascii` meets its contract: each byte passed is a sequence of one byte.
+-- Assumes nothing.
 use borrow.Author.Needs.{needs}
 use Prim.Native.Nat.{_-_}
 use lib.ListN.{length}
-use Rattle.text.specs.Valid.{Along}
+use Rattle.text.specs.Along.{Along}
 use Rattle.text.proofs.Longest.{along-here, along-ascii}
 use Rattle.text.proofs.ascii.Statement.{statement}
 use Rattle.text.proofs.ascii.Tie as tie

@@ -1,3 +1,5 @@
+-- `text::bits` meets its contract: a byte modulo `m` is less than `m`.
+-- Assumes nothing.
 use borrow.Author.Needs.{needs}
 use mathlib.Core.Path.{refl}
 use native.Mathlib.Omega.{arith}

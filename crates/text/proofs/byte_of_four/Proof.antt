@@ -1,3 +1,5 @@
+-- `text::byte_of_four` meets its contract: a byte by its number, or past the last.
+-- Assumes nothing.
 use borrow.Author.Needs.{needs}
 use mathlib.Core.Path.{sym}
 use native.Mathlib.Omega.{arith}

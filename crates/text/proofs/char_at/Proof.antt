@@ -1,3 +1,5 @@
+-- `text::char_at` meets its contract: a law for each length of a sequence; a sequence that is there lies within the list.
+-- Assumes nothing.
 use borrow.Author.Needs.{needs}
 use Rattle.text.proofs.Chars.{char-one, char-two, char-three, char-four, char-none}
 use Rattle.text.proofs.char_at.Statement.{statement}

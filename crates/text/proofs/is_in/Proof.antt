@@ -1,3 +1,5 @@
+-- `text::is_in` meets its contract: the tests that led to each `return` say whether the byte is in the range.
+-- Assumes nothing.
 use borrow.Author.Needs.{needs}
 use mathlib.Core.Path.{sym}
 use Rattle.text.proofs.Rows.{in-range, in-below, starts-out}

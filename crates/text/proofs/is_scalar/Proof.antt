@@ -1,3 +1,5 @@
+-- `text::is_scalar` meets its contract: the number is in one of the two ranges, or outside both.
+-- Assumes nothing.
 use native.Mathlib.Omega.{arith}
 use Rattle.text.specs.Utf8.{scalars, isScalar}
 use Rattle.text.proofs.Among.{inside, outside}

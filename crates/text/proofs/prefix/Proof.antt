@@ -1,8 +1,10 @@
+-- `text::prefix` meets its contract: the valid bytes end at the same place, seen from the start and from `i`.
+-- Assumes nothing.
 use borrow.Author.Needs.{needs}
 use Prim.Native.Nat.{_-_}
 use lib.ListN.{length}
-use Rattle.text.specs.Valid.{Along}
-use Rattle.text.proofs.Longest.{along-stop, along-more}
+use Rattle.text.specs.Along.{Along}
+use Rattle.text.proofs.Longest.{along-along, along-stop, along-more}
 use Rattle.text.proofs.prefix.Statement.{statement}
 use Rattle.text.proofs.prefix.Tie as tie
 
@@ -12,11 +14,14 @@ Inv-loop s i₀ i = Along s 0 i
 abbrev μ-loop : tie.MeasureT-loop
 μ-loop s i₀ i = length s - i
 
+skip-requires : tie.Need-skip-requires Inv-loop μ-loop
+skip-requires c κs = search needs
+
 ascii-requires : tie.Need-ascii-requires Inv-loop μ-loop
 ascii-requires c κs = search needs
 
 loop-holds : tie.Need-loop-holds Inv-loop μ-loop
-loop-holds c = search needs
+loop-holds c = along-along _ _ _ _ (c .before .skip .ensures) (c .ascii .ensures)
 
 seq-len-requires : tie.Need-seq-len-requires Inv-loop μ-loop
 seq-len-requires c κs = search needs
@@ -42,6 +47,7 @@ prefix-spec =
     (tie.spec
     Inv-loop
     μ-loop
+    skip-requires
     ascii-requires
     loop-holds
     seq-len-requires

@@ -1,3 +1,5 @@
+-- `text::seq_len` meets its contract: each arm of the `match` is a row of Table 3-7, by its number, or lies between the rows.
+-- Assumes nothing.
 use borrow.Author.Needs.{needs}
 use mathlib.Core.Path.{refl, ap, _∙_}
 use mathlib.Core.Bool.{Bool, cond}

@@ -1,3 +1,5 @@
+-- `text::three_in` meets its contract: the first byte is in its range and the rest is what the second call found, or it is not.
+-- Assumes nothing.
 use borrow.Author.Needs.{needs}
 use mathlib.Core.List.{[], _∷_}
 use Rattle.text.specs.Ranges.{_‥_}

@@ -1,3 +1,5 @@
+-- `text::utf8_byte` meets its contract: a law for each range of numbers, and the byte that the callee gave.
+-- Assumes nothing.
 use borrow.Author.Needs.{needs}
 use mathlib.Core.Path.{sym}
 use native.Mathlib.Omega.{arith}

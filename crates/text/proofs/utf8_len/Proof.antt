@@ -1,3 +1,5 @@
+-- `text::utf8_len` meets its contract: a law for each range of numbers.
+-- Assumes nothing.
 use native.Mathlib.Omega.{arith}
 use Rattle.text.proofs.Bytes.{utf8-one, utf8-two, utf8-three, utf8-three-high, utf8-four, utf8-surrogate, utf8-past}
 use Rattle.text.proofs.utf8_len.Statement.{statement}

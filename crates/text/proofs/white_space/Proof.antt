@@ -1,3 +1,5 @@
+-- `text::white_space` meets its contract: a character that stands alone in the table, one in a range, or one outside all of them.
+-- Assumes nothing.
 use native.Mathlib.Omega.{arith}
 use Rattle.text.specs.Space.{spaces, whiteSpace}
 use Rattle.text.proofs.Among.{inside}
