@@ -6,8 +6,20 @@
 use std::path::{Path, PathBuf};
 use std::{env, fs};
 
-/// A module of this program for each of the Rust's files.
-const MODULES: &[(&str, &str)] = &[("prec_climb", "load/prec_climb.rs")];
+/// A module of this program for each of the Rust's files, at the path by which the others name it.
+/// `load` brings its own `lex`, `parse` and `prec_climb`, the last one for itself alone.
+const MODULES: &[(&str, &str)] = &[
+    ("box_iter", "box_iter.rs"),
+    ("compile", "compile.rs"),
+    ("load", "load/mod.rs"),
+    ("ops", "ops.rs"),
+    ("path", "path.rs"),
+    ("prec_climb", "load/prec_climb.rs"),
+    ("val", "val.rs"),
+];
+
+/// The Rust's own warnings are not ours: most of it is never called here, and it has features.
+const ALLOWED: &str = "clippy::all, dead_code, unexpected_cfgs, unused_imports";
 
 const ENTRIES: &[&str] = &["filter_climb", "filter_lex", "filter_compile"];
 
@@ -31,8 +43,8 @@ fn write_modules(source: &Path) {
         let Ok(path) = path.canonicalize() else {
             panic!("no {}: let JAQ_SRC name the folder src of jaq-core 3.1.2", path.display());
         };
-        println!("cargo:rerun-if-changed={}", path.display());
-        lines += &format!("#[allow(dead_code)]\n#[path = {path:?}]\nmod {name};\n");
+        println!("cargo:rerun-if-changed={}", path.parent().unwrap().display());
+        lines += &format!("#[allow({ALLOWED})]\n#[path = {path:?}]\nmod {name};\n");
     }
     let out = PathBuf::from(env::var_os("OUT_DIR").unwrap());
     fs::write(out.join("rust.rs"), lines).unwrap();

@@ -9,68 +9,81 @@ const ROUNDS: usize = 41;
 /// Each round calls a side for about this long.
 const ROUND: Duration = Duration::from_millis(2);
 
-/// Nanoseconds a call, over so many calls.
-fn time(calls: u32, call: &mut dyn FnMut(u32)) -> f64 {
-    let start = Instant::now();
-    call(calls);
-    start.elapsed().as_nanos() as f64 / f64::from(calls)
+/// A side for measuring: calls it so often, and says what the calls took.
+pub type Timed<'a> = &'a mut dyn FnMut(u32) -> Duration;
+
+/// A side that needs nothing but its calls.
+pub fn timed(mut call: impl FnMut()) -> impl FnMut(u32) -> Duration {
+    move |calls| {
+        let start = Instant::now();
+        (0..calls).for_each(|_| call());
+        start.elapsed()
+    }
 }
 
 /// As many calls as a round takes.
-fn calls_a_round(call: &mut dyn FnMut(u32)) -> u32 {
+fn calls_a_round(side: Timed) -> u32 {
     let mut calls = 1;
-    loop {
-        let start = Instant::now();
-        call(calls);
-        if start.elapsed() >= ROUND || calls >= 1 << 24 {
-            return calls;
-        }
+    while side(calls) < ROUND && calls < 1 << 24 {
         calls *= 2;
     }
+    calls
 }
 
-/// The best round: what else the machine does can only add to a time.
-fn best(times: Vec<f64>) -> f64 {
-    times.into_iter().fold(f64::INFINITY, f64::min)
+/// Nanoseconds a call of each side.
+#[derive(Clone, Copy)]
+pub struct Times {
+    rust: f64,
+    ours: Option<f64>,
 }
 
-/// The Rust's side for measuring, which writes into the caller's room as the library's entry does.
-pub type IntoRoom = fn(input: &[u8], room: &mut [u8]) -> Answer;
+/// Measures both sides and takes the best round of each: what else the machine does can only add to
+/// a time.
+fn times(rust: Timed, mut ours: Option<Timed>) -> Times {
+    let rust_calls = calls_a_round(rust);
+    let our_calls = ours.as_mut().map_or(0, |ours| calls_a_round(ours));
+    let mut best = Times { rust: f64::INFINITY, ours: ours.as_ref().map(|_| f64::INFINITY) };
+    let a_call = |took: Duration, calls: u32| took.as_nanos() as f64 / f64::from(calls);
+    for _ in 0..ROUNDS {
+        best.rust = best.rust.min(a_call(rust(rust_calls), rust_calls));
+        if let (Some(ours), Some(best)) = (&mut ours, &mut best.ours) {
+            *best = best.min(a_call(ours(our_calls), our_calls));
+        }
+    }
+    best
+}
 
-/// Prints the best time of both sides and the Rust's time over ours. Both write the same listing.
-pub fn pair(label: &str, subject: &Subject, rust: IntoRoom, input: &[u8]) {
+/// Prints the best time of both sides and the Rust's time over ours. Ours is lent more than any
+/// input of this length could fill, and its listing is compared first.
+pub fn pair(label: &str, subject: &Subject, input: &[u8], rust: Timed) -> Times {
+    let Some(entry) = subject.ours else {
+        let times = times(rust, None);
+        println!("{label:<36} rust {:>10.1} ns", times.rust);
+        return times;
+    };
+
     let mut listing = Vec::new();
     let due = (subject.rust)(input, &mut listing);
-    let expected = due.in_room(listing.len(), listing.len());
-    let (mut rust_room, mut our_room) = (vec![0; listing.len()], vec![0; listing.len()]);
+    let mut room = vec![0; 9 * input.len() + 64];
+    let expected = due.in_room(listing.len(), room.len());
+    assert_eq!(Answer::unpack(library::call(entry, input, &mut room)), expected, "{label}");
+    assert_eq!(room[..listing.len()], listing, "{label}");
 
-    assert_eq!(rust(input, &mut rust_room), expected);
-    assert_eq!(rust_room, listing);
-    let mut rust = |calls| {
-        for _ in 0..calls {
-            black_box(rust(black_box(input), black_box(&mut rust_room)));
-        }
-    };
-    let Some(entry) = subject.ours else {
-        let calls = calls_a_round(&mut rust);
-        let times = (0..ROUNDS).map(|_| time(calls, &mut rust)).collect();
-        return println!("{label:<36} rust {:>10.1} ns", best(times));
-    };
-
-    assert_eq!(Answer::unpack(library::call(entry, input, &mut our_room)), expected);
-    assert_eq!(our_room, listing);
-    let mut ours = |calls| {
-        for _ in 0..calls {
-            black_box(library::call(entry, black_box(input), black_box(&mut our_room)));
-        }
-    };
-    let (rust_calls, our_calls) = (calls_a_round(&mut rust), calls_a_round(&mut ours));
-    let (mut rust_times, mut our_times) = (Vec::new(), Vec::new());
-    for _ in 0..ROUNDS {
-        rust_times.push(time(rust_calls, &mut rust));
-        our_times.push(time(our_calls, &mut ours));
-    }
-    let (rust, ours) = (best(rust_times), best(our_times));
+    let mut ours = timed(|| {
+        black_box(library::call(entry, black_box(input), black_box(&mut room)));
+    });
+    let times = times(rust, Some(&mut ours));
+    let (rust, ours) = (times.rust, times.ours.unwrap());
     let ratio = rust / ours;
     println!("{label:<36} rust {rust:>10.1} ns   ours {ours:>10.1} ns   rust/ours {ratio:>5.2}");
+    times
+}
+
+/// Prints by what a larger input's times exceed a smaller one's.
+pub fn growth(label: &str, small: Times, large: Times) {
+    print!("{label:<36} rust {:>10.2} x ", large.rust / small.rust);
+    match (small.ours, large.ours) {
+        (Some(small), Some(large)) => println!("   ours {:>10.2} x", large / small),
+        _ => println!(),
+    }
 }

@@ -2,18 +2,16 @@
 //! leftmost and rightmost operand, and an operator writes both down where its field stands.
 
 use crate::bench;
+use crate::fields::{LONGEST_INPUT, OPENING};
 use crate::gen::{all_rows, Rng};
 use crate::library;
 use crate::prec_climb::{climb, Associativity, Expr, Op};
 use crate::room::{Answer, Due, Lent, Subject};
+use std::hint::black_box;
 
 pub const SUBJECT: Subject = Subject { name: "climb", code: 1, ours: library::CLIMB, rust: oracle };
 
-const LONGEST_INPUT: usize = 32_768;
 const MOST_OPERATORS: usize = 1_024;
-
-/// "Listings open with field 00: edition 1".
-const OPENING: [u8; 4] = [0, 1, 0, 1];
 /// "field 0B with its leftmost and rightmost operand numbers, two bytes each".
 const FIELD: usize = 7;
 
@@ -245,8 +243,12 @@ pub fn bench() {
         let mixed = (0..count).map(|_| [rng.byte() % 8, rng.byte() & 1]).collect::<Vec<_>>();
         let rows = [("left", [4, 0].repeat(count)), ("right", [4, 1].repeat(count))];
         for (name, row) in rows.into_iter().chain([("mixed", mixed.concat())]) {
+            let mut room = vec![0; OPENING.len() + FIELD * count];
+            let mut rust = bench::timed(|| {
+                black_box(into_room(black_box(&row), black_box(&mut room)));
+            });
             let label = format!("climb, {count} operators, {name}");
-            bench::pair(&label, &SUBJECT, into_room, &row);
+            bench::pair(&label, &SUBJECT, &row, &mut rust);
         }
     }
 }

@@ -1,23 +1,31 @@
 //! Compares the filter compiler with the Rust that it was ported from. The Rust's own files are
 //! compiled into this program as they are, and both sides answer the same inputs.
 
+extern crate alloc;
+// An arena of this name is all that the Rust takes from another crate.
+extern crate self as typed_arena;
+
 mod bench;
+mod beside;
 mod climb;
+mod fields;
 mod gen;
+mod lex;
 mod library;
 mod room;
 
 // The Rust's files, at the paths by which they name each other.
 include!(concat!(env!("OUT_DIR"), "/rust.rs"));
+use beside::{Arena, Bind, Error, Exn, RcList};
 
 use std::io::{self, BufWriter, Write};
 use std::process::ExitCode;
 use std::thread;
 
 const USAGE: &str = "\
-usage: compare run [climb] [SEED] [COUNT]
-       compare bench [climb]
-       compare record climb > FILE";
+usage: compare run [climb | lex] [SEED] [COUNT]
+       compare bench [climb | lex]
+       compare record climb | lex > FILE";
 
 /// The Rust calls itself once for each level of nesting.
 const STACK: usize = 1 << 29;
@@ -37,13 +45,22 @@ struct Side {
     bench: fn(),
 }
 
-const SIDES: &[Side] = &[Side {
-    subject: climb::SUBJECT,
-    inputs: climb::inputs,
-    count: 100_000,
-    sample: climb::sample,
-    bench: climb::bench,
-}];
+const SIDES: &[Side] = &[
+    Side {
+        subject: climb::SUBJECT,
+        inputs: climb::inputs,
+        count: 100_000,
+        sample: climb::sample,
+        bench: climb::bench,
+    },
+    Side {
+        subject: lex::SUBJECT,
+        inputs: lex::inputs,
+        count: 300_000,
+        sample: lex::sample,
+        bench: lex::bench,
+    },
+];
 
 fn main() -> ExitCode {
     let args: Vec<String> = std::env::args().skip(1).collect();
