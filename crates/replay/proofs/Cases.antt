@@ -12,9 +12,12 @@ use Rattle.fields.specs.declared.Answer.{Answer}
 use Rattle.fields.specs.Outcome.{Outcome, listing, refusal, pick, answer, content, Answers}
 use Rattle.fields.specs.Promises.{one-answer}
 use Rattle.climber.specs.Climbing.{climbing}
-use Rattle.replay.specs.Case.{numberAt, answerOf, roomOf, listingOf, Whole}
+use Rattle.replay.specs.Case.{numberAt, entryOf, inputOf, recordOf, answerOf, roomOf, listingOf, Whole}
 use Rattle.replay.specs.Lent.{patternAt, Patterned, dueAt, Left}
-use Rattle.replay.specs.Replay.{outcome, HoldsOf}
+use Rattle.replay.specs.declared.Called.{Called}
+use Rattle.replay.specs.declared.Called.the-variants.{Gave}
+use Rattle.replay.specs.Replay.{outcome, HoldsOf, Holds, Calls}
+use Rattle.replay.proofs.Numbers.{tail}
 use Rattle.replay.proofs.Rooms.{Tells, due-in, due-past}
 
 -- a call of an entry by its byte is a call of that entry
@@ -50,9 +53,9 @@ pub same : (a : Answer) (recorded : List ℕ) (l p : ℕ) → a .number ≡ getD
 unfolding answerOf
 same a recorded l p e f g h k = λ i. record { number = e i; length = (g ∙ f) i; place = (k ∙ h) i }
 
-pub told : (r : Bool) (a : Answer) (recorded room : List ℕ) → a ≡ answerOf recorded → Tells r room (drop 13 recorded) → Agrees r a recorded room
+pub told : (r : Bool) (a : Answer) (recorded room : List ℕ) → a ≡ answerOf recorded → Tells r room (take (length recorded - 13) (drop 13 recorded)) → Agrees r a recorded room
 unfolding listingOf
-told r a recorded room e t = (λ h. (e, t .0 h), λ q. t .1 (q .1))
+told r a recorded room e u = let t : Tells r room (drop 13 recorded) = rw (tail recorded 13) at u in (λ h. (e, t .0 h), λ q. t .1 (q .1))
 
 length-listing : (recorded : List ℕ) → 13 + answerOf recorded .length ≡ length recorded → length (listingOf recorded) ≡ answerOf recorded .length
 unfolding listingOf
@@ -113,3 +116,25 @@ shown o d d′ recorded a h r p s f =
     (one .0, record {
       fits = omega (arith, ap length (one .1), length-append (listingOf recorded) (drop (length (listingOf recorded)) d));
       holds = λ i k. ap (λ (x : List ℕ). getD x i 0) (one .1) ∙ due (listingOf recorded) d i (p i (omega arith)) })
+
+-- The case is replayed by its parts: the input and the record as code takes them.
+module _ (case d d′ : List ℕ) (n : ℕ) (a : Answer) (r : Called) (t : Bool) (at : n ≡ numberAt case 1) (whole : Whole case) (lent : length d ≡ roomOf (recordOf case))
+  (calls : Calls (entryOf case) (take (5 + n - 5) (drop 5 case)) d d′ r) (gave : r ≡ Gave a) (agrees : Agrees t a (take (length case - (5 + n)) (drop (5 + n) case)) d′) where
+  answers : Answers (outcome (entryOf case) (inputOf case)) d d′ a
+  unfolding inputOf
+  answers =
+      let h : Calls (entryOf case) (take (5 + n - 5) (drop 5 case)) d d′ (Gave a) = rw gave at calls in
+      let e : 5 + n - 5 ≡ numberAt case 1 = omega arith in
+      rw e at h
+
+  agreed : Agrees t a (recordOf case) d′
+  unfolding recordOf
+  agreed = let h = rw (tail case (5 + n)) at agrees in rw at at h
+
+  pub show-same : t ≡ true → Holds case
+  unfolding Holds
+  show-same e = shows _ d d′ (recordOf case) a answers lent (whole .lists) (agreed .0 e)
+
+  pub show-other : Patterned d → length d′ ≡ length d → t ≡ false → Holds case → ⊥
+  unfolding Holds
+  show-other p l e h = let y : t ≡ true = agreed .1 (shown _ d d′ (recordOf case) a answers lent p l h) in let z : _≡_ {A = ℕ} 0 1 = cc in omega arith

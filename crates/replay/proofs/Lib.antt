@@ -1,4 +1,4 @@
 mod Numbers
 mod Rooms
 mod Cases
--- mod Counts
+mod Counts

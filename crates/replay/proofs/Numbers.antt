@@ -5,9 +5,13 @@ use Prim.Native.Nat.{ℕ, suc, _+_, _-_, _*_, _≤_, _<_}
 use native.Mathlib.Numerals.{add-one}
 use native.Mathlib.Omega.{arith}
 use lib.ListN.{length, take, drop, getD, length-drop}
-use lib.Seq.{drop-cons, drop-drop, getD-take, getD-drop, length-take-le}
+use lib.Seq.{take-all, drop-cons, drop-drop, getD-take, getD-drop, length-take-le}
 use Rattle.fields.specs.Number.{value}
-use Rattle.replay.specs.Case.{numberAt, recordOf, answerOf, Whole}
+use Rattle.replay.specs.Case.{numberAt, recordOf, roomOf, answerOf, Whole}
+
+-- the bytes from n on, as code takes them
+pub tail : (s : List ℕ) (n : ℕ) → take (length s - n) (drop n s) ≡ drop n s
+tail s n = take-all (length s - n) (drop n s) (omega (arith, length-drop n s))
 
 -- four elements of a list are a list of four
 four-of : (s : List ℕ) → 4 ≤ length s → take 4 s ≡ getD s 0 0 ∷ getD s 1 0 ∷ getD s 2 0 ∷ getD s 3 0 ∷ []
@@ -45,3 +49,8 @@ whole s input listing e f h =
     record {
       inputs = omega arith;
       lists = rw (n, number-drop (5 + input) (take (18 + input + listing) s) 5, k, length-drop) (omega arith) }
+
+-- the room's length stands behind the input
+pub lent : (case : List ℕ) (n r : ℕ) → n ≡ numberAt case 1 → r ≡ numberAt case (5 + n) → r ≡ roomOf (recordOf case)
+unfolding recordOf roomOf
+lent case n r e f = rw (number-drop (5 + numberAt case 1) case 0, ← e) (f ∙ ap (numberAt case) (omega arith))

@@ -7,11 +7,11 @@
 ghost use mathlib.Core.Path.{_≡_};
 ghost use mathlib.Core.Bool.{true};
 ghost use Prim.Native.Nat.{ℕ, _+_, _≤_, _<_, _^_};
-ghost use lib.ListN.{length, take, getD, set};
+ghost use lib.ListN.{length, take};
 ghost use Rattle.replay.specs.Case.{numberAt, recordOf, roomOf, answerOf, listingOf, Whole};
 ghost use Rattle.replay.specs.Lent.{patternAt, Patterned, dueAt, Left};
 ghost use Rattle.replay.specs.Replay.{Calls, Shows};
-ghost use Rattle.replay.specs.Count.{Few, Held, Turned};
+ghost use Rattle.replay.specs.Count.{Few, Tallies, CanGrow, Counted, Replayed, Held, Turned};
 use fields::Answer;
 use libc::STDIN_FILENO;
 use libc::STDOUT_FILENO;
@@ -154,17 +154,40 @@ fn show(case: &[u8], room: &mut [u8]) -> Shown
 }
 
 // Counts one more of an entry.
-fn count(counts: &mut [u64; 256], entry: u8)
-    requires { ⌜ getD (now counts) entry 0 + 1 < 2 ^ 64 ⌝ }
-    ensures { λ _. ⌜ now (counts .exit) ≡ set (now (counts .entry)) entry (getD (now (counts .entry)) entry 0 + 1) ⌝ }
+fn count(counts: &mut [u64], entry: u8)
+    requires { ⌜ CanGrow (now counts) ⌝ }
+    ensures { λ _. ⌜ Counted (now (counts .entry)) (now (counts .exit)) ⌝ }
 {
     let i = wide(entry);
     counts[i] = counts[i] + 1;
 }
 
-// Replays and counts the case at `at`, and gives its length: 0 where there is no whole case of a known entry that fits the room.
-fn turn(sample: &[u8], at: usize, room: &mut [u8], cases: &mut [u64; 256], mismatches: &mut [u64; 256]) -> usize
-    requires { ⌜ (at ≤ length (now sample)) × Few (now cases) at × Few (now mismatches) at ⌝ }
+// Replays and counts a case. False where its entry is unknown, or its room longer than there is.
+fn replay_case(case: &[u8], room: &mut [u8], cases: &mut [u64], mismatches: &mut [u64]) -> bool
+    requires { ⌜ Whole (now case) × CanGrow (now cases) × CanGrow (now mismatches) ⌝ }
+    ensures { λ r. ⌜ Replayed (now (case .entry)) r (now (cases .entry)) (now (cases .exit)) (now (mismatches .entry)) (now (mismatches .exit)) ⌝ }
+{
+    let lent = number(case, 5 + number(case, 1));
+    if room.len() < lent {
+        return false;
+    }
+    match show(case, &mut room[..lent]) {
+        Shown::Same => {
+            count(cases, case[0]);
+            true
+        }
+        Shown::Other => {
+            count(cases, case[0]);
+            count(mismatches, case[0]);
+            true
+        }
+        Shown::Strange => false,
+    }
+}
+
+// Replays and counts the case at `at`, and gives its length: 0 where there is no case that can be replayed.
+fn turn(sample: &[u8], at: usize, room: &mut [u8], cases: &mut [u64], mismatches: &mut [u64]) -> usize
+    requires { ⌜ (at ≤ length (now sample)) × Tallies (now cases) at × Tallies (now mismatches) at ⌝ }
     ensures { λ r. ⌜ Turned (now (sample .entry)) at r (now (cases .exit)) (now (mismatches .entry)) (now (mismatches .exit)) ⌝ }
 {
     let long = case_length(&sample[at..]);
@@ -172,28 +195,16 @@ fn turn(sample: &[u8], at: usize, room: &mut [u8], cases: &mut [u64; 256], misma
         return 0;
     }
     let end = at + long;
-    let case = &sample[at..end];
-    let lent = number(case, 5 + number(case, 1));
-    if room.len() < lent {
-        return 0;
-    }
-    match show(case, &mut room[..lent]) {
-        Shown::Same => {
-            count(cases, case[0]);
-            long
-        }
-        Shown::Other => {
-            count(cases, case[0]);
-            count(mismatches, case[0]);
-            long
-        }
-        Shown::Strange => 0,
+    if replay_case(&sample[at..end], room, cases, mismatches) {
+        long
+    } else {
+        0
     }
 }
 
 // Replays case after case, and gives the place behind the last.
-fn replay(sample: &[u8], room: &mut [u8], cases: &mut [u64; 256], mismatches: &mut [u64; 256]) -> usize
-    requires { ⌜ Few (now cases) 0 × Few (now mismatches) 0 ⌝ }
+fn replay(sample: &[u8], room: &mut [u8], cases: &mut [u64], mismatches: &mut [u64]) -> usize
+    requires { ⌜ Tallies (now cases) 0 × Tallies (now mismatches) 0 ⌝ }
     ensures { λ r. ⌜ (r ≤ length (now (sample .entry))) × (Few (now (mismatches .exit)) 0 → Held (now (sample .entry)) r) ⌝ }
 {
     let mut at = 0;

@@ -1,3 +1,4 @@
+use Rattle.replay.proofs.Counts.{counts}
 use borrow.Author.Needs.{needs}
 use Rattle.replay.proofs.count.Statement.{statement}
 use Rattle.replay.proofs.count.Tie as tie
@@ -14,24 +15,28 @@ mul-counts : tie.Need-mul-counts
 mul-counts c = search needs
 
 -- src/main.rt:162:17
-element-copy-out-counts : tie.Need-element-copy-out-counts
-element-copy-out-counts c = search needs
+slice-read-counts : tie.Need-slice-read-counts
+slice-read-counts c = search needs
 
 -- src/main.rt:162:17
 add-counts : tie.Need-add-counts
-add-counts c = search needs
+add-counts c = record { fits = c .before .before .before .pre .grows (c .before .wide .result) }
 
 -- src/main.rt:162:5
 mul-counts-2 : tie.Need-mul-counts-2
 mul-counts-2 c = search needs
 
 -- src/main.rt:162:5
-element-write-counts : tie.Need-element-write-counts
-element-write-counts c = search needs
+slice-write-counts : tie.Need-slice-write-counts
+slice-write-counts c = search needs
+
+-- src/main.rt:157:1
+same-length : tie.Need-same-length
+same-length c = search needs
 
 -- src/main.rt:157:1
 returns : tie.Need-returns
-returns c = search needs
+returns c = counts (c .before .before .before .args .counts .now) (c .before .wide .result) (search needs)
 
 pub count-spec : {M : Type 1} → statement M
 count-spec =
@@ -39,8 +44,9 @@ count-spec =
     (tie.spec
     wide-requires
     mul-counts
-    element-copy-out-counts
+    slice-read-counts
     add-counts
     mul-counts-2
-    element-write-counts
+    slice-write-counts
+    same-length
     returns)

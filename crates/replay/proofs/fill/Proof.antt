@@ -39,7 +39,7 @@ loop-less c = search needs
 
 -- src/main.rt:52:5
 loop-again : tie.Need-loop-again Inv-loop μ-loop
-loop-again c = (simp length-set (omega arith), simp length-set (c .before .before .loop .inv .1), fill-more _ _ _ (c .before .loop-test .taken) (c .pattern .ensures) (c .before .before .loop .inv .2))
+loop-again c = (simp length-set (omega arith), simp length-set (c .before .before .loop .inv .1), fill-more (c .before .before .loop .room) (c .before .before .loop .i) _ (c .before .loop-test .taken) (c .pattern .ensures) (c .before .before .loop .inv .2))
 
 -- src/main.rt:48:1
 same-length : tie.Need-same-length Inv-loop μ-loop
@@ -47,7 +47,7 @@ same-length c = search needs
 
 -- src/main.rt:48:1
 returns : tie.Need-returns Inv-loop μ-loop
-returns c = fill-all _ _ (c .loop-test .left) (c .before .loop .inv .2)
+returns c = fill-all (c .before .loop .room) (c .before .loop .i) (c .loop-test .left) (c .before .loop .inv .2)
 
 pub fill-spec : {M : Type 1} → statement M
 fill-spec =

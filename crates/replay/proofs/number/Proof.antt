@@ -1,3 +1,5 @@
+use Rattle.replay.proofs.Numbers.{four}
+use native.Mathlib.Omega.{arith}
 use borrow.Author.Needs.{needs}
 use Rattle.replay.proofs.number.Statement.{statement}
 use Rattle.replay.proofs.number.Tie as tie
@@ -75,7 +77,7 @@ add-result c = search needs
 
 -- src/main.rt:93:1
 returns : tie.Need-returns
-returns c = search needs
+returns c = omega (arith, four (c .before .before .before .before .before .before .before .before .before .args .bytes .now) (c .before .before .before .before .before .before .before .before .before .args .at) (c .before .before .before .before .before .before .before .before .before .pre))
 
 pub number-spec : {M : Type 1} → statement M
 number-spec =

@@ -1,3 +1,5 @@
+use mathlib.Core.Path.{_∙_}
+use Rattle.replay.proofs.Cases.{show-same, show-other}
 use borrow.Author.Needs.{needs}
 use Rattle.replay.proofs.show.Statement.{statement}
 use Rattle.replay.proofs.show.Tie as tie
@@ -78,7 +80,7 @@ same-length-2 c = search needs
 
 -- src/main.rt:138:1
 returns-2 : tie.Need-returns-2
-returns-2 c = ?
+returns-2 c = show-same _ _ _ _ _ _ _ (c .before .before .before .before .before .before .before .before .before .before .before .before .before .before .before .before .before .number .ensures .0) (c .before .before .before .before .before .before .before .before .before .before .before .before .before .before .before .before .before .before .before .before .pre .0) (c .before .before .before .before .before .before .before .before .before .before .before .before .before .before .before .fill .kept .0 ∙ c .before .before .before .before .before .before .before .before .before .before .before .before .before .before .before .before .before .before .before .before .pre .1) (c .before .before .before .before .before .before .before .before .before .call .ensures) (c .before .before .before .before .before .a .given .1) (c .before .agrees .ensures) (c .if1 .taken)
 
 -- src/main.rt:138:1
 same-length-3 : tie.Need-same-length-3
@@ -86,7 +88,7 @@ same-length-3 c = search needs
 
 -- src/main.rt:138:1
 returns-3 : tie.Need-returns-3
-returns-3 c = ?
+returns-3 c = show-other _ _ _ _ _ _ _ (c .before .before .before .before .before .before .before .before .before .before .before .before .before .before .before .before .before .number .ensures .0) (c .before .before .before .before .before .before .before .before .before .before .before .before .before .before .before .before .before .before .before .before .pre .0) (c .before .before .before .before .before .before .before .before .before .before .before .before .before .before .before .fill .kept .0 ∙ c .before .before .before .before .before .before .before .before .before .before .before .before .before .before .before .before .before .before .before .before .pre .1) (c .before .before .before .before .before .before .before .before .before .call .ensures) (c .before .before .before .before .before .a .given .1) (c .before .agrees .ensures) (c .before .before .before .before .before .before .before .before .before .before .before .before .before .before .before .fill .ensures) (c .before .before .before .before .before .before .before .before .before .call .kept .1 .1 .0) (c .if1 .left)
 
 pub show-spec : {M : Type 1} → statement M
 show-spec =

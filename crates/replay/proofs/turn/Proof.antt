@@ -1,136 +1,89 @@
+use Rattle.replay.proofs.Counts.{stopped, fits, part-whole, grows, turned}
+use lib.ListN.{length}
+use Prim.Native.Nat.{_+_, _≤_}
+use native.Mathlib.Omega.{arith}
 use borrow.Author.Needs.{needs}
 use Rattle.replay.proofs.turn.Statement.{statement}
 use Rattle.replay.proofs.turn.Tie as tie
 use Rattle.replay.proofs.turn.Reads as reads
 use Rattle.replay.proofs.turn.Lts as lts
 use Rattle.replay.proofs.case_length.Reads as case-length-reads
-use Rattle.replay.proofs.count.Reads as count-reads
-use Rattle.replay.proofs.number.Reads as number-reads
-use Rattle.replay.proofs.show.Reads as show-reads
+use Rattle.replay.proofs.replay_case.Reads as replay-case-reads
 
--- src/main.rt:170:28
+-- src/main.rt:193:28
 sub-case-length : tie.Need-sub-case-length
 sub-case-length c = search needs
 
--- src/main.rt:170:28
+-- src/main.rt:193:28
 part-case-length-start : tie.Need-part-case-length-start
 part-case-length-start c = search needs
 
--- src/main.rt:170:28
+-- src/main.rt:193:28
 part-case-length-end : tie.Need-part-case-length-end
 part-case-length-end c = search needs
 
--- src/main.rt:170:9
+-- src/main.rt:193:9
 case-length-requires : tie.Need-case-length-requires
 case-length-requires c κs = search needs
 
--- src/main.rt:172:9
+-- src/main.rt:195:9
 returns : tie.Need-returns
-returns c = ?
+returns c = stopped _ _ _ _ _ (c .before .before .before .before .before .before .before .pre .0) (λ f. f)
 
--- src/main.rt:174:15
+-- src/main.rt:197:15
 add-end : tie.Need-add-end
 add-end c = search needs
 
--- src/main.rt:175:16
-sub-case : tie.Need-sub-case
-sub-case c = search needs
+-- src/main.rt:198:20
+sub-replay-case : tie.Need-sub-replay-case
+sub-replay-case c = search needs
 
--- src/main.rt:175:16
-part-case-start : tie.Need-part-case-start
-part-case-start c = search needs
+-- src/main.rt:198:20
+part-replay-case-start : tie.Need-part-replay-case-start
+part-replay-case-start c = search needs
 
--- src/main.rt:175:16
-part-case-end : tie.Need-part-case-end
-part-case-end c = search needs
+-- src/main.rt:198:20
+part-replay-case-end : tie.Need-part-replay-case-end
+part-replay-case-end c = search needs
 
--- src/main.rt:176:33
-number-requires : tie.Need-number-requires
-number-requires c κs = ?
+-- src/main.rt:198:8
+replay-case-requires : tie.Need-replay-case-requires
+replay-case-requires c κs = 
+    let a = c .before .before .before .before .before .before .before .before .before .before .before .args in
+    let g : a .at + c .before .before .before .before .before .case-length .result ≤ length (a .sample .now) = fits (a .sample .now) (a .at) _ (c .before .before .before .before .before .before .before .before .before .before .before .pre .0) (c .before .before .before .before .before .case-length .ensures) (c .before .before .before .before .if1 .left) in
+    (part-whole (a .sample .now) (a .at) _ (c .before .before .before .before .before .before .before .before .before .before .before .pre .0) (c .before .before .before .before .before .case-length .ensures) (c .before .before .before .before .if1 .left), grows _ (a .at) (omega arith) (c .before .before .before .before .before .before .before .before .before .before .before .pre .1), grows _ (a .at) (omega arith) (c .before .before .before .before .before .before .before .before .before .before .before .pre .2))
 
--- src/main.rt:176:29
-add-number : tie.Need-add-number
-add-number c = search needs
-
--- src/main.rt:176:9
-number-requires-2 : tie.Need-number-requires-2
-number-requires-2 c κs = ?
-
--- src/main.rt:178:9
-returns-2 : tie.Need-returns-2
-returns-2 c = ?
-
--- src/main.rt:180:22
-slice-relend-prefix-show : tie.Need-slice-relend-prefix-show
-slice-relend-prefix-show c = search needs
-
--- src/main.rt:180:22
-slice-aggregate-show : tie.Need-slice-aggregate-show
-slice-aggregate-show c = ?
-
--- src/main.rt:180:11
-show-requires : tie.Need-show-requires
-show-requires c κs = ?
-
--- src/main.rt:182:19
-enum-told : tie.Need-enum-told
-enum-told c = search needs
-
--- src/main.rt:182:26
-shared-slice-read-count : tie.Need-shared-slice-read-count
-shared-slice-read-count c = search needs
-
--- src/main.rt:182:13
-count-requires : tie.Need-count-requires
-count-requires c κs = ?
-
--- src/main.rt:186:19
-enum-told-2 : tie.Need-enum-told-2
-enum-told-2 c = search needs
-
--- src/main.rt:186:26
-shared-slice-read-count-2 : tie.Need-shared-slice-read-count-2
-shared-slice-read-count-2 c = search needs
-
--- src/main.rt:186:13
-count-requires-2 : tie.Need-count-requires-2
-count-requires-2 c κs = ?
-
--- src/main.rt:187:31
-shared-slice-read-count-3 : tie.Need-shared-slice-read-count-3
-shared-slice-read-count-3 c = search needs
-
--- src/main.rt:187:13
-count-requires-3 : tie.Need-count-requires-3
-count-requires-3 c κs = ?
-
--- src/main.rt:190:27
-enum-told-3 : tie.Need-enum-told-3
-enum-told-3 c = search needs
-
--- src/main.rt:166:1
+-- src/main.rt:189:1
 same-length : tie.Need-same-length
 same-length c = search needs
 
--- src/main.rt:166:1
-returns-3 : tie.Need-returns-3
-returns-3 c = ?
-
--- src/main.rt:166:1
+-- src/main.rt:189:1
 same-length-2 : tie.Need-same-length-2
 same-length-2 c = search needs
 
--- src/main.rt:166:1
-returns-4 : tie.Need-returns-4
-returns-4 c = ?
-
--- src/main.rt:166:1
+-- src/main.rt:189:1
 same-length-3 : tie.Need-same-length-3
 same-length-3 c = search needs
 
--- src/main.rt:166:1
-returns-5 : tie.Need-returns-5
-returns-5 c = ?
+-- src/main.rt:189:1
+returns-2 : tie.Need-returns-2
+returns-2 c = turned _ _ _ (c .before .before .before .before .before .before .before .before .before .before .before .before .before .before .before .before .before .before .before .pre .0) (c .before .before .before .before .before .before .before .before .before .before .before .before .before .case-length .ensures) (c .before .before .before .before .before .before .before .before .before .before .before .before .if1 .left) _ _ _ _ _ (c .before .before .before .before .before .before .before .before .before .before .before .before .before .before .before .before .before .before .before .pre .1 .few) (c .before .before .before .before .before .before .before .before .before .before .before .before .before .before .before .before .before .before .before .pre .2 .few) (c .if2 .taken) (c .before .before .before .before .before .before .before .replay-case .ensures)
+
+-- src/main.rt:189:1
+same-length-4 : tie.Need-same-length-4
+same-length-4 c = search needs
+
+-- src/main.rt:189:1
+same-length-5 : tie.Need-same-length-5
+same-length-5 c = search needs
+
+-- src/main.rt:189:1
+same-length-6 : tie.Need-same-length-6
+same-length-6 c = search needs
+
+-- src/main.rt:189:1
+returns-3 : tie.Need-returns-3
+returns-3 c = stopped _ _ _ _ _ (c .before .before .before .before .before .before .before .before .before .before .before .before .before .before .before .before .before .before .before .pre .0) (c .before .before .before .before .before .before .before .replay-case .ensures .kept)
 
 pub turn-spec : {M : Type 1} → statement M
 turn-spec =
@@ -142,28 +95,15 @@ turn-spec =
     case-length-requires
     returns
     add-end
-    sub-case
-    part-case-start
-    part-case-end
-    number-requires
-    add-number
-    number-requires-2
-    returns-2
-    slice-relend-prefix-show
-    slice-aggregate-show
-    show-requires
-    enum-told
-    shared-slice-read-count
-    count-requires
-    enum-told-2
-    shared-slice-read-count-2
-    count-requires-2
-    shared-slice-read-count-3
-    count-requires-3
-    enum-told-3
+    sub-replay-case
+    part-replay-case-start
+    part-replay-case-end
+    replay-case-requires
     same-length
-    returns-3
     same-length-2
-    returns-4
     same-length-3
-    returns-5)
+    returns-2
+    same-length-4
+    same-length-5
+    same-length-6
+    returns-3)
