@@ -7,11 +7,10 @@ use native.Mathlib.Omega.{arith}
 use lib.ListN.{length, take, drop, getD, length-append, length-drop, drop-of-length-le, List·getD-append}
 use lib.Seq.{getD-append-add, getD-drop, ext-getD}
 use lib.Dec.{leb, ltb}
-use borrow.Author.Tests.{ltb-true, ltb-false, eq-eqb}
+use borrow.Author.Tests.{ltb-true, ltb-false}
 use Rattle.fields.specs.declared.Answer.{Answer}
 use Rattle.fields.specs.Outcome.{Outcome, listing, refusal, pick, answer, content, Answers}
 use Rattle.fields.specs.Promises.{one-answer}
-use Rattle.climber.specs.Climbing.{climbing}
 use Rattle.replay.specs.Case.{numberAt, entryOf, inputOf, recordOf, answerOf, roomOf, listingOf, Whole}
 use Rattle.replay.specs.Lent.{patternAt, Patterned, dueAt, Left}
 use Rattle.replay.specs.declared.Called.{Called}
@@ -20,10 +19,9 @@ use Rattle.replay.specs.Replay.{outcome, HoldsOf, Holds, Calls}
 use Rattle.replay.proofs.Numbers.{tail}
 use Rattle.replay.proofs.Rooms.{Tells, due-in, due-past}
 
--- a call of an entry by its byte is a call of that entry
-pub climbs : (entry : ℕ) (input d d′ : List ℕ) (a : Answer) → entry ≡ 1 → Answers (climbing input) d d′ a → Answers (outcome entry input) d d′ a
-unfolding outcome
-climbs entry input d d′ a e h = simp (eq-eqb _ _ e) h
+-- a call of the entry that a byte names
+pub named : (entry n : ℕ) (input d d′ : List ℕ) (a : Answer) → entry ≡ n → Answers (outcome n input) d d′ a → Answers (outcome entry input) d d′ a
+named entry n input d d′ a e h = rw e h
 
 -- the answer and the room are what is recorded
 abbrev pub Recorded : Answer → List ℕ → List ℕ → Type 0
@@ -72,8 +70,8 @@ all-left : (bytes rest recorded room : List ℕ) → 13 + answerOf recorded .len
 all-left bytes rest recorded room w z e l =
     let k : length (listingOf recorded) ≡ length bytes = length-listing recorded w ∙ z in
     ext-getD 0 (listingOf recorded) bytes k (λ i h.
-      due-in (listingOf recorded) i h ∙ sym (l .holds i (omega (arith, l .fits)))
-      ∙ ap (λ (x : List ℕ). getD x i 0) e ∙ List·getD-append bytes rest 0 i (omega arith))
+    due-in (listingOf recorded) i h ∙ sym (l .holds i (omega (arith, l .fits)))
+    ∙ ap (λ (x : List ℕ). getD x i 0) e ∙ List·getD-append bytes rest 0 i (omega arith))
 
 pub shows : (o : Outcome) (d d′ recorded : List ℕ) (a : Answer) → Answers o d d′ a → length d ≡ roomOf recorded → 13 + answerOf recorded .length ≡ length recorded
     → Recorded a recorded d′ → HoldsOf o recorded
@@ -112,14 +110,17 @@ pub shown : (o : Outcome) (d d′ recorded : List ℕ) (a : Answer) → Answers 
     → HoldsOf o recorded → Recorded a recorded d′
 unfolding Patterned
 shown o d d′ recorded a h r p s f =
-    let one = one-answer o d _ _ _ _ h (f d r) in
-    (one .0, record {
-      fits = omega (arith, ap length (one .1), length-append (listingOf recorded) (drop (length (listingOf recorded)) d));
-      holds = λ i k. ap (λ (x : List ℕ). getD x i 0) (one .1) ∙ due (listingOf recorded) d i (p i (omega arith)) })
+    let one = one-answer o d _ _ _ _ h (f d r) in (
+      one .0,
+      record {
+        fits = omega (arith, ap length (one .1), length-append (listingOf recorded) (drop (length (listingOf recorded)) d));
+        holds = λ i k. ap (λ (x : List ℕ). getD x i 0) (one .1) ∙ due (listingOf recorded) d i (p i (omega arith));
+      },
+    )
 
 -- The case is replayed by its parts: the input and the record as code takes them.
 module _ (case d d′ : List ℕ) (n : ℕ) (a : Answer) (r : Called) (t : Bool) (at : n ≡ numberAt case 1) (whole : Whole case) (lent : length d ≡ roomOf (recordOf case))
-  (calls : Calls (entryOf case) (take (5 + n - 5) (drop 5 case)) d d′ r) (gave : r ≡ Gave a) (agrees : Agrees t a (take (length case - (5 + n)) (drop (5 + n) case)) d′) where
+    (calls : Calls (entryOf case) (take (5 + n - 5) (drop 5 case)) d d′ r) (gave : r ≡ Gave a) (agrees : Agrees t a (take (length case - (5 + n)) (drop (5 + n) case)) d′) where
   answers : Answers (outcome (entryOf case) (inputOf case)) d d′ a
   unfolding inputOf
   answers =

@@ -20,7 +20,8 @@ pub counts : (l : List ℕ) (e : ℕ) → e < length l → Counted l (set l e (g
 unfolding Few
 counts l e h = record {
   few = λ n f i. go n f i (eqb i e) refl;
-  some = λ f. omega (arith, f e, getD-set-same l e (getD l e 0 + 1) 0 h) }
+  some = λ f. omega (arith, f e, getD-set-same l e (getD l e 0 + 1) 0 h);
+}
   where
     go : (n : ℕ) → ((i : ℕ) → getD l i 0 ≤ n) → (i : ℕ) (t : Bool) → eqb i e ≡ t → getD (set l e (getD l e 0 + 1)) i 0 ≤ n + 1
     go n f i true t = let q : i ≡ e = eqb-true i e t in rw (q, getD-set-same l e (getD l e 0 + 1) 0 h) (omega (arith, f e))
@@ -54,21 +55,24 @@ module _ (case : List ℕ) where
     cases = λ n f. few-more k n (n + 1) (omega arith) f;
     mismatches = λ n f. few-more m n (n + 1) (omega arith) f;
     kept = λ f. f;
-    holds = untrue }
+    holds = untrue;
+  }
 
   pub matched : (r : Shown) (k k′ m : List ℕ) → r ≡ Same → Shows case r → Counted k k′ → Replayed case true k k′ m m
   matched r k k′ m e s c = record {
     cases = c .few;
     mismatches = λ n f. few-more m n (n + 1) (omega arith) f;
     kept = λ f. f;
-    holds = λ _ _. rw e at s }
+    holds = λ _ _. rw e at s;
+  }
 
   pub missed : (k k′ m m′ : List ℕ) → Counted k k′ → Counted m m′ → Replayed case true k k′ m m′
   missed k k′ m m′ c d = record {
     cases = c .few;
     mismatches = d .few;
     kept = λ f. absurd (d .some f);
-    holds = λ _ f. absurd (d .some f) }
+    holds = λ _ f. absurd (d .some f);
+  }
 
 -- a turn at no case
 pub stopped : (s : List ℕ) (at : ℕ) (k′ m m′ : List ℕ) → at ≤ length s → (Few m′ 0 → Few m 0) → Turned s at 0 k′ m m′
@@ -77,11 +81,12 @@ stopped s at k′ m m′ h f = record {
   cases = λ n. absurd (n refl);
   mismatches = λ n. absurd (n refl);
   kept = f;
-  holds = λ n. absurd (n refl) }
+  holds = λ n. absurd (n refl);
+}
 
 -- a turn at a case, whose bytes are the sample's as code takes them
 module _ (s : List ℕ) (at n : ℕ) (within : at ≤ length s)
-  (found : (n ≤ length (take (length s - at) (drop at s))) × ((n ≡ 0 → ⊥) → Whole (take n (take (length s - at) (drop at s))))) (some : n ≡ 0 → ⊥) where
+    (found : (n ≤ length (take (length s - at) (drop at s))) × ((n ≡ 0 → ⊥) → Whole (take n (take (length s - at) (drop at s))))) (some : n ≡ 0 → ⊥) where
   pub fits : at + n ≤ length s
   fits = omega (arith, found .0, ap length (tail s at), length-drop at s)
 
@@ -100,4 +105,5 @@ module _ (s : List ℕ) (at n : ℕ) (within : at ≤ length s)
     cases = λ z. few-more k′ (at + 1) (at + n) (omega arith) (q .cases at f);
     mismatches = λ z. few-more m′ (at + 1) (at + n) (omega arith) (q .mismatches at g);
     kept = q .kept;
-    holds = λ _ h. (whole, rw part at (q .holds e h)) }
+    holds = λ _ h. (whole, rw part at (q .holds e h));
+  }

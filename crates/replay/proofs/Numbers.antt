@@ -31,8 +31,14 @@ four s at h =
 -- a number that stands in a part of the bytes
 pub number-take : (n : ℕ) (s : List ℕ) (at : ℕ) → at + 4 ≤ n → n ≤ length s → numberAt (take n s) at ≡ numberAt s at
 number-take n s at h k =
-    rw (four (take n s) at (omega (arith, length-take-le n s k)), four s at (omega arith),
-    getD-take n s at 0 (omega arith), getD-take n s (at + 1) 0 (omega arith), getD-take n s (at + 2) 0 (omega arith), getD-take n s (at + 3) 0 (omega arith))
+    rw (
+      four (take n s) at (omega (arith, length-take-le n s k)),
+      four s at (omega arith),
+      getD-take n s at 0 (omega arith),
+      getD-take n s (at + 1) 0 (omega arith),
+      getD-take n s (at + 2) 0 (omega arith),
+      getD-take n s (at + 3) 0 (omega arith),
+    )
 
 pub number-drop : (n : ℕ) (s : List ℕ) (at : ℕ) → numberAt (drop n s) at ≡ numberAt s (n + at)
 unfolding numberAt
@@ -48,7 +54,8 @@ whole s input listing e f h =
     let k : numberAt (take (18 + input + listing) s) (5 + input + 5) ≡ listing = number-take _ s _ (omega arith) h ∙ ap (numberAt s) (omega arith) ∙ sym f in
     record {
       inputs = omega arith;
-      lists = rw (n, number-drop (5 + input) (take (18 + input + listing) s) 5, k, length-drop) (omega arith) }
+      lists = rw (n, number-drop (5 + input) (take (18 + input + listing) s) 5, k, length-drop) (omega arith);
+    }
 
 -- the room's length stands behind the input
 pub lent : (case : List ℕ) (n r : ℕ) → n ≡ numberAt case 1 → r ≡ numberAt case (5 + n) → r ≡ roomOf (recordOf case)

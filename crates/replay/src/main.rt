@@ -186,7 +186,13 @@ fn replay_case(case: &[u8], room: &mut [u8], cases: &mut [u64], mismatches: &mut
 }
 
 // Replays and counts the case at `at`, and gives its length: 0 where there is no case that can be replayed.
-fn turn(sample: &[u8], at: usize, room: &mut [u8], cases: &mut [u64], mismatches: &mut [u64]) -> usize
+fn turn(
+    sample: &[u8],
+    at: usize,
+    room: &mut [u8],
+    cases: &mut [u64],
+    mismatches: &mut [u64],
+) -> usize
     requires { ⌜ (at ≤ length (now sample)) × Tallies (now cases) at × Tallies (now mismatches) at ⌝ }
     ensures { λ r. ⌜ Turned (now (sample .entry)) at r (now (cases .exit)) (now (mismatches .entry)) (now (mismatches .exit)) ⌝ }
 {

@@ -1,53 +1,39 @@
-use Rattle.replay.proofs.Cases.{other, other-number, other-length, other-place, same, told}
+-- `replay::agrees` meets its contract: each part of the answer is compared, and then the room. Assumes nothing.
 use borrow.Author.Needs.{needs}
+use Rattle.replay.proofs.Cases.{other, other-number, other-length, other-place, same, told}
 use Rattle.replay.proofs.agrees.Statement.{statement}
 use Rattle.replay.proofs.agrees.Tie as tie
-use Rattle.replay.proofs.agrees.Reads as reads
-use Rattle.replay.proofs.agrees.Lts as lts
-use Rattle.replay.proofs.left.Reads as left-reads
-use Rattle.replay.proofs.number.Reads as number-reads
 
--- src/main.rt:107:20
 shared-slice-read-if1 : tie.Need-shared-slice-read-if1
 shared-slice-read-if1 c = search needs
 
--- src/main.rt:108:9
 returns : tie.Need-returns
 returns c = other _ _ _ (other-number _ _ (c .if1 .taken))
 
--- src/main.rt:110:20
 number-requires : tie.Need-number-requires
 number-requires c κs = search needs
 
--- src/main.rt:111:9
 returns-2 : tie.Need-returns-2
 returns-2 c = other _ _ _ (other-length _ _ _ (c .before .before .number .ensures .0) (c .if2 .taken))
 
--- src/main.rt:113:19
 number-requires-2 : tie.Need-number-requires-2
 number-requires-2 c κs = search needs
 
--- src/main.rt:114:9
 returns-3 : tie.Need-returns-3
 returns-3 c = other _ _ _ (other-place _ _ _ (c .before .before .number2 .ensures .0) (c .if3 .taken))
 
--- src/main.rt:116:16
 sub-left : tie.Need-sub-left
 sub-left c = search needs
 
--- src/main.rt:116:16
 part-left-start : tie.Need-part-left-start
 part-left-start c = search needs
 
--- src/main.rt:116:16
 part-left-end : tie.Need-part-left-end
 part-left-end c = search needs
 
--- src/main.rt:116:5
 left-requires : tie.Need-left-requires
 left-requires c κs = search needs
 
--- src/main.rt:103:1
 returns-4 : tie.Need-returns-4
 returns-4 c = told _ _ _ _ (same _ _ _ _ (c .before .before .before .before .before .before .before .before .if1 .left) (c .before .before .before .before .before .before .before .number .ensures .0) (c .before .before .before .before .before .if2 .left) (c .before .before .before .before .number2 .ensures .0) (c .before .before .if3 .left)) (c .left .ensures)
 

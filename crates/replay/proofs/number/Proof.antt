@@ -1,81 +1,61 @@
-use Rattle.replay.proofs.Numbers.{four}
-use native.Mathlib.Omega.{arith}
+-- `replay::number` meets its contract: four bytes are a number. Assumes nothing.
 use borrow.Author.Needs.{needs}
+use native.Mathlib.Omega.{arith}
+use Rattle.replay.proofs.Numbers.{four}
 use Rattle.replay.proofs.number.Statement.{statement}
 use Rattle.replay.proofs.number.Tie as tie
-use Rattle.replay.proofs.number.Reads as reads
-use Rattle.replay.proofs.number.Lts as lts
-use Rattle.replay.proofs.wide.Reads as wide-reads
 
--- src/main.rt:97:20
 shared-slice-read-wide : tie.Need-shared-slice-read-wide
 shared-slice-read-wide c = search needs
 
--- src/main.rt:97:15
 wide-requires : tie.Need-wide-requires
 wide-requires c κs = search needs
 
--- src/main.rt:97:50
 add-wide : tie.Need-add-wide
 add-wide c = search needs
 
--- src/main.rt:97:44
 shared-slice-read-wide-2 : tie.Need-shared-slice-read-wide-2
 shared-slice-read-wide-2 c = search needs
 
--- src/main.rt:97:39
 wide-requires-2 : tie.Need-wide-requires-2
 wide-requires-2 c κs = search needs
 
--- src/main.rt:97:33
 mul-low : tie.Need-mul-low
 mul-low c = search needs
 
--- src/main.rt:97:15
 add-low : tie.Need-add-low
 add-low c = search needs
 
--- src/main.rt:98:27
 add-wide-2 : tie.Need-add-wide-2
 add-wide-2 c = search needs
 
--- src/main.rt:98:21
 shared-slice-read-wide-3 : tie.Need-shared-slice-read-wide-3
 shared-slice-read-wide-3 c = search needs
 
--- src/main.rt:98:16
 wide-requires-3 : tie.Need-wide-requires-3
 wide-requires-3 c κs = search needs
 
--- src/main.rt:98:55
 add-wide-3 : tie.Need-add-wide-3
 add-wide-3 c = search needs
 
--- src/main.rt:98:49
 shared-slice-read-wide-4 : tie.Need-shared-slice-read-wide-4
 shared-slice-read-wide-4 c = search needs
 
--- src/main.rt:98:44
 wide-requires-4 : tie.Need-wide-requires-4
 wide-requires-4 c κs = search needs
 
--- src/main.rt:98:38
 mul-high : tie.Need-mul-high
 mul-high c = search needs
 
--- src/main.rt:98:16
 add-high : tie.Need-add-high
 add-high c = search needs
 
--- src/main.rt:99:11
 mul-result : tie.Need-mul-result
 mul-result c = search needs
 
--- src/main.rt:99:5
 add-result : tie.Need-add-result
 add-result c = search needs
 
--- src/main.rt:93:1
 returns : tie.Need-returns
 returns c = omega (arith, four (c .before .before .before .before .before .before .before .before .before .args .bytes .now) (c .before .before .before .before .before .before .before .before .before .args .at) (c .before .before .before .before .before .before .before .before .before .pre))
 
