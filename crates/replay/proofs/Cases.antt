@@ -1,7 +1,7 @@
 -- What a recorded case is compared with, and what the comparison shows of the entry's definition. Assumes nothing.
-use mathlib.Core.Path.{_≡_, refl, sym, ap, subst, _∙_}
+use mathlib.Core.Path.{_≡_, refl, sym, ap, _∙_}
 use mathlib.Core.Bool.{Bool, true, false}
-use mathlib.Core.List.{List, [], _∷_, _++_}
+use mathlib.Core.List.{List, [], _++_}
 use Prim.Native.Nat.{ℕ, _+_, _-_, _≤_, _<_}
 use native.Mathlib.Omega.{arith}
 use lib.ListN.{length, take, drop, getD, length-append, length-drop, drop-of-length-le, List·getD-append}
@@ -12,27 +12,20 @@ use Rattle.fields.specs.declared.Answer.{Answer}
 use Rattle.fields.specs.Outcome.{Outcome, listing, refusal, pick, answer, content, Answers}
 use Rattle.fields.specs.Promises.{one-answer}
 use Rattle.replay.specs.Case.{numberAt, entryOf, inputOf, recordOf, answerOf, roomOf, listingOf, Whole}
-use Rattle.replay.specs.Lent.{patternAt, Patterned, dueAt, Left}
+use Rattle.replay.specs.Lent.{patternAt, Patterned, dueAt, Left, Tells}
 use Rattle.replay.specs.declared.Called.{Called}
 use Rattle.replay.specs.declared.Called.the-variants.{Gave}
-use Rattle.replay.specs.Replay.{outcome, HoldsOf, Holds, Calls}
+use Rattle.replay.specs.Replay.{outcome, HoldsOf, Holds, Recorded, Calls}
 use Rattle.replay.proofs.Numbers.{tail}
-use Rattle.replay.proofs.Rooms.{Tells, due-in, due-past}
+use Rattle.replay.proofs.Rooms.{untold, due-in, due-past}
 
 -- a call of the entry that a byte names
 pub named : (entry n : ℕ) (input d d′ : List ℕ) (a : Answer) → entry ≡ n → Answers (outcome n input) d d′ a → Answers (outcome entry input) d d′ a
 named entry n input d d′ a e h = rw e h
 
--- the answer and the room are what is recorded
-abbrev pub Recorded : Answer → List ℕ → List ℕ → Type 0
-Recorded a recorded room = (a ≡ answerOf recorded) × Left room (listingOf recorded)
-
--- what `agrees` answers
-abbrev pub Agrees : Bool → Answer → List ℕ → List ℕ → Type 0
-Agrees r a recorded room = (r ≡ true → Recorded a recorded room) × (Recorded a recorded room → r ≡ true)
-
-pub other : (a : Answer) (recorded room : List ℕ) → (a ≡ answerOf recorded → ⊥) → Agrees false a recorded room
-other a recorded room n = (λ e. absurd (let z : _≡_ {A = ℕ} 0 1 = cc in omega arith), λ p. absurd (n (p .0)))
+-- the answer is another than the recorded one
+pub other : (a : Answer) (recorded room : List ℕ) → (a ≡ answerOf recorded → ⊥) → Tells false (Recorded a recorded room)
+other a recorded room n = untold (λ p. n (p .answers))
 
 pub other-number : (a : Answer) (recorded : List ℕ) → (a .number ≡ getD recorded 4 0 → ⊥) → a ≡ answerOf recorded → ⊥
 unfolding answerOf
@@ -51,9 +44,12 @@ pub same : (a : Answer) (recorded : List ℕ) (l p : ℕ) → a .number ≡ getD
 unfolding answerOf
 same a recorded l p e f g h k = λ i. record { number = e i; length = (g ∙ f) i; place = (k ∙ h) i }
 
-pub told : (r : Bool) (a : Answer) (recorded room : List ℕ) → a ≡ answerOf recorded → Tells r room (take (length recorded - 13) (drop 13 recorded)) → Agrees r a recorded room
+pub told : (r : Bool) (a : Answer) (recorded room : List ℕ) → a ≡ answerOf recorded → Tells r (Left room (take (length recorded - 13) (drop 13 recorded)))
+    → Tells r (Recorded a recorded room)
 unfolding listingOf
-told r a recorded room e u = let t : Tells r room (drop 13 recorded) = rw (tail recorded 13) at u in (λ h. (e, t .0 h), λ q. t .1 (q .1))
+told r a recorded room e u =
+    let t : Tells r (Left room (drop 13 recorded)) = rw (tail recorded 13) at u in
+    (λ h. record { answers = e; leaves = t .0 h }, λ q. t .1 (q .leaves))
 
 length-listing : (recorded : List ℕ) → 13 + answerOf recorded .length ≡ length recorded → length (listingOf recorded) ≡ answerOf recorded .length
 unfolding listingOf
@@ -77,7 +73,7 @@ pub shows : (o : Outcome) (d d′ recorded : List ℕ) (a : Answer) → Answers 
     → Recorded a recorded d′ → HoldsOf o recorded
 unfolding answer content
 shows (refusal n at) d d′ recorded a h r w p e q =
-    let z : answerOf recorded ≡ answer (refusal n at) (length d) = sym (p .0) ∙ h .answers in
+    let z : answerOf recorded ≡ answer (refusal n at) (length d) = sym (p .answers) ∙ h .answers in
     record { answers = z; leaves = rw (none-left recorded w (ap (λ (x : Answer). x .length) z)) }
 shows (listing n bytes) d d′ recorded a h r w p e q = go (leb (length bytes) (length d)) (ap (λ (k : ℕ). leb (length bytes) k) (q ∙ sym r)) (h .answers) (h .leaves)
   where
@@ -86,11 +82,11 @@ shows (listing n bytes) d d′ recorded a h r w p e q = go (leb (length bytes) (
         → d′ ≡ pick t (bytes ++ drop (length bytes) d) d
         → Answers (listing n bytes) e (listingOf recorded ++ drop (length (listingOf recorded)) e) (answerOf recorded)
     go true t u v =
-        let z : answerOf recorded ≡ record { number = n; length = length bytes; place = 0 } = sym (p .0) ∙ u in
-        let l : listingOf recorded ≡ bytes = all-left bytes _ recorded d′ w (ap (λ (x : Answer). x .length) z) v (p .1) in
+        let z : answerOf recorded ≡ record { number = n; length = length bytes; place = 0 } = sym (p .answers) ∙ u in
+        let l : listingOf recorded ≡ bytes = all-left bytes _ recorded d′ w (ap (λ (x : Answer). x .length) z) v (p .leaves) in
         record { answers = simp t z; leaves = simp t (rw l) }
     go false t u v =
-        let z : answerOf recorded ≡ record { number = 7; length = 0; place = 0 } = sym (p .0) ∙ u in
+        let z : answerOf recorded ≡ record { number = 7; length = 0; place = 0 } = sym (p .answers) ∙ u in
         let l : listingOf recorded ≡ [] = none-left recorded w (ap (λ (x : Answer). x .length) z) in
         record { answers = simp t z; leaves = simp t (rw l) }
 
@@ -110,17 +106,19 @@ pub shown : (o : Outcome) (d d′ recorded : List ℕ) (a : Answer) → Answers 
     → HoldsOf o recorded → Recorded a recorded d′
 unfolding Patterned
 shown o d d′ recorded a h r p s f =
-    let one = one-answer o d _ _ _ _ h (f d r) in (
-      one .0,
-      record {
-        fits = omega (arith, ap length (one .1), length-append (listingOf recorded) (drop (length (listingOf recorded)) d));
-        holds = λ i k. ap (λ (x : List ℕ). getD x i 0) (one .1) ∙ due (listingOf recorded) d i (p i (omega arith));
-      },
-    )
+    let one = one-answer o d _ _ _ _ h (f d r) in
+    record {
+      answers = one .0;
+      leaves =
+          record {
+            fits = omega (arith, ap length (one .1), length-append (listingOf recorded) (drop (length (listingOf recorded)) d));
+            holds = λ i k. ap (λ (x : List ℕ). getD x i 0) (one .1) ∙ due (listingOf recorded) d i (p i (omega arith));
+          };
+    }
 
 -- The case is replayed by its parts: the input and the record as code takes them.
 module _ (case d d′ : List ℕ) (n : ℕ) (a : Answer) (r : Called) (t : Bool) (at : n ≡ numberAt case 1) (whole : Whole case) (lent : length d ≡ roomOf (recordOf case))
-    (calls : Calls (entryOf case) (take (5 + n - 5) (drop 5 case)) d d′ r) (gave : r ≡ Gave a) (agrees : Agrees t a (take (length case - (5 + n)) (drop (5 + n) case)) d′) where
+    (calls : Calls (entryOf case) (take (5 + n - 5) (drop 5 case)) d d′ r) (gave : r ≡ Gave a) (agrees : Tells t (Recorded a (take (length case - (5 + n)) (drop (5 + n) case)) d′)) where
   answers : Answers (outcome (entryOf case) (inputOf case)) d d′ a
   unfolding inputOf
   answers =
@@ -128,7 +126,7 @@ module _ (case d d′ : List ℕ) (n : ℕ) (a : Answer) (r : Called) (t : Bool)
       let e : 5 + n - 5 ≡ numberAt case 1 = omega arith in
       rw e at h
 
-  agreed : Agrees t a (recordOf case) d′
+  agreed : Tells t (Recorded a (recordOf case) d′)
   unfolding recordOf
   agreed = let h = rw (tail case (5 + n)) at agrees in rw at at h
 

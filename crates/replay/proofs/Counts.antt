@@ -1,9 +1,8 @@
 -- Counting, and what the counts say of the cases replayed. Assumes nothing.
-use mathlib.Core.Path.{_≡_, refl, sym, ap, subst, _∙_}
+use mathlib.Core.Path.{_≡_, refl, ap}
 use mathlib.Core.Bool.{Bool, true, false}
-use mathlib.Core.List.{List, [], _∷_}
+use mathlib.Core.List.{List}
 use Prim.Native.Nat.{ℕ, _+_, _-_, _≤_, _<_, _^_}
-use native.Mathlib.Nat.{le-refl}
 use native.Mathlib.Omega.{arith}
 use lib.ListN.{length, take, drop, getD, set, replicate, length-drop, length-replicate, getD-replicate, List·getD-eq-default}
 use lib.Seq.{getD-set-same, getD-set-other}
@@ -11,10 +10,11 @@ use lib.Dec.{eqb, ltb}
 use borrow.Author.Tests.{eqb-true, eqb-false, ltb-true, ltb-false}
 use Rattle.replay.specs.Case.{Whole}
 use Rattle.replay.proofs.Numbers.{tail}
+use Rattle.replay.proofs.Rooms.{untrue}
 use Rattle.replay.specs.declared.Shown.{Shown}
 use Rattle.replay.specs.declared.Shown.the-variants.{Same}
-use Rattle.replay.specs.Replay.{Holds, Shows}
-use Rattle.replay.specs.Count.{Few, Tallies, CanGrow, Counted, Replayed, caseAt, Turned, Held}
+use Rattle.replay.specs.Replay.{Shows}
+use Rattle.replay.specs.Count.{Few, Tallies, CanGrow, Counted, Replayed, caseAt, Turned}
 
 pub counts : (l : List ℕ) (e : ℕ) → e < length l → Counted l (set l e (getD l e 0 + 1))
 unfolding Few
@@ -44,9 +44,6 @@ zeros n i = go (ltb i n) refl
 few-more : (l : List ℕ) (m n : ℕ) → m ≤ n → Few l m → Few l n
 unfolding Few
 few-more l m n h f i = omega (arith, f i)
-
-untrue : {P : Type 0} → false ≡ true → P
-untrue e = absurd (let z : _≡_ {A = ℕ} 0 1 = cc in omega arith)
 
 -- the three ways in which a case is replayed
 module _ (case : List ℕ) where

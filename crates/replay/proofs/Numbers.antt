@@ -1,11 +1,10 @@
 -- Four bytes as a number, and a case's length by its numbers. Assumes nothing.
 use mathlib.Core.Path.{_≡_, refl, sym, ap, _∙_}
 use mathlib.Core.List.{List, [], _∷_}
-use Prim.Native.Nat.{ℕ, suc, _+_, _-_, _*_, _≤_, _<_}
-use native.Mathlib.Numerals.{add-one}
+use Prim.Native.Nat.{ℕ, _+_, _-_, _*_, _≤_}
 use native.Mathlib.Omega.{arith}
 use lib.ListN.{length, take, drop, getD, length-drop}
-use lib.Seq.{take-all, drop-cons, drop-drop, getD-take, getD-drop, length-take-le}
+use lib.Seq.{take-all, drop-drop, getD-take, getD-drop, length-take-le}
 use Rattle.fields.specs.Number.{value}
 use Rattle.replay.specs.Case.{numberAt, recordOf, roomOf, answerOf, Whole}
 

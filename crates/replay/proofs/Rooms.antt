@@ -1,15 +1,14 @@
 -- Filling a room and comparing it, byte by byte. Assumes nothing.
-use mathlib.Core.Path.{_≡_, refl, sym, ap, subst, _∙_}
-use mathlib.Core.Bool.{Bool, true, false}
-use mathlib.Core.List.{List, [], _∷_, _++_}
-use Prim.Native.Nat.{ℕ, _+_, _-_, _≤_, _<_}
+use mathlib.Core.Path.{_≡_, refl, _∙_}
+use mathlib.Core.Bool.{true, false}
+use mathlib.Core.List.{List}
+use Prim.Native.Nat.{ℕ, _+_, _≤_, _<_}
 use native.Mathlib.Omega.{arith}
-use lib.ListN.{length, take, drop, getD, set, length-set}
+use lib.ListN.{length, getD, set}
 use lib.Seq.{getD-set-same, getD-set-other}
-use lib.Dec.{ltb}
 use borrow.Author.Count.{below-more}
 use borrow.Author.Tests.{lt-ltb, le-ltb}
-use Rattle.replay.specs.Lent.{patternAt, Patterned, dueAt, Left}
+use Rattle.replay.specs.Lent.{patternAt, Patterned, dueAt, Left, Tells}
 
 -- the pattern below i
 abbrev pub Filled : List ℕ → ℕ → Type 0
@@ -30,21 +29,25 @@ pub due-past : (listing : List ℕ) (i : ℕ) → length listing ≤ i → patte
 unfolding dueAt
 due-past listing i h = simp (le-ltb _ _ h)
 
--- what `left` answers: whether the room is as it must be
-abbrev pub Tells : Bool → List ℕ → List ℕ → Type 0
-Tells r room listing = (r ≡ true → Left room listing) × (Left room listing → r ≡ true)
-
+-- the room is as it must be below i
 abbrev pub Compared : List ℕ → List ℕ → ℕ → Type 0
 Compared room listing i = (k : ℕ) → k < i → getD room k 0 ≡ dueAt listing k
 
-untrue : {P : Type 0} → false ≡ true → P
+pub untrue : {P : Type 0} → false ≡ true → P
 untrue e = absurd (let z : _≡_ {A = ℕ} 0 1 = cc in omega arith)
 
-pub short : (room listing : List ℕ) → length room < length listing → Tells false room listing
-short room listing h = (untrue, λ l. absurd (omega (arith, l .fits)))
+-- what does not hold is told by false
+pub untold : {P : Type 0} → (P → ⊥) → Tells false P
+untold n = (untrue, λ p. absurd (n p))
 
-pub differs : (room listing : List ℕ) (i : ℕ) → i < length room → (getD room i 0 ≡ dueAt listing i → ⊥) → Tells false room listing
-differs room listing i h n = (untrue, λ l. absurd (n (l .holds i h)))
+pub held : {P : Type 0} → P → Tells true P
+held p = (λ _. p, λ _. refl)
 
-pub equals : (room listing : List ℕ) (i : ℕ) → length listing ≤ length room → length room ≤ i → Compared room listing i → Tells true room listing
-equals room listing i f h c = (λ _. record { fits = f; holds = λ k l. c k (omega arith) }, λ _. refl)
+pub short : (room listing : List ℕ) → length room < length listing → Tells false (Left room listing)
+short room listing h = untold (λ l. omega (arith, l .fits))
+
+pub differs : (room listing : List ℕ) (i : ℕ) → i < length room → (getD room i 0 ≡ dueAt listing i → ⊥) → Tells false (Left room listing)
+differs room listing i h n = untold (λ l. n (l .holds i h))
+
+pub equals : (room listing : List ℕ) (i : ℕ) → length listing ≤ length room → length room ≤ i → Compared room listing i → Tells true (Left room listing)
+equals room listing i f h c = held (record { fits = f; holds = λ k l. c k (omega arith) })

@@ -49,3 +49,8 @@ pub record Turned (sample : List ℕ) (at r : ℕ) (k′ m m′ : List ℕ) : Ty
 pub data Held (sample : List ℕ) : ℕ → Type 0 where
   none : Held sample 0
   more : (at n : ℕ) → Held sample at → Whole (caseAt sample at n) → Holds (caseAt sample at n) → Held sample (at + n)
+
+-- "A zero byte in the place of an entry ends the sample": `at` is its place, and nothing stands behind it
+pub record Ended (sample : List ℕ) (at : ℕ) : Type 0 where
+  pub zero : getD sample at 0 ≡ 0
+  pub last : at + 1 ≡ length sample

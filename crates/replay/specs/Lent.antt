@@ -1,5 +1,6 @@
 -- What the room holds before a call and after it. It is filled with a pattern, so that a byte that an entry changed shows.
 use mathlib.Core.Path.{_≡_}
+use mathlib.Core.Bool.{Bool, true}
 use mathlib.Core.List.{List}
 use Prim.Native.Nat.{ℕ, _%_, _≤_, _<_}
 use lib.ListN.{length, getD}
@@ -20,3 +21,7 @@ dueAt listing i = pick (ltb i (length listing)) (getD listing i 0) (patternAt i)
 pub record Left (room listing : List ℕ) : Type 0 where
   pub fits : length listing ≤ length room
   pub holds : (i : ℕ) → i < length room → getD room i 0 ≡ dueAt listing i
+
+-- r tells whether P holds
+abbrev pub Tells : Bool → Type 0 → Type 0
+Tells r P = (r ≡ true → P) × (P → r ≡ true)

@@ -5,13 +5,12 @@
 // Printed are the cases and mismatches of each entry, and whether the sample is whole, or where its first byte stands that is
 // no part of a case: a case cut short, an unknown entry, a room longer than there is, bytes behind the end.
 ghost use mathlib.Core.Path.{_≡_};
-ghost use mathlib.Core.Bool.{true};
-ghost use Prim.Native.Nat.{ℕ, _+_, _≤_, _<_, _^_};
+ghost use Prim.Native.Nat.{_+_, _≤_, _<_, _^_};
 ghost use lib.ListN.{length, take};
-ghost use Rattle.replay.specs.Case.{numberAt, recordOf, roomOf, answerOf, listingOf, Whole};
-ghost use Rattle.replay.specs.Lent.{patternAt, Patterned, dueAt, Left};
-ghost use Rattle.replay.specs.Replay.{Calls, Shows};
-ghost use Rattle.replay.specs.Count.{Few, Tallies, CanGrow, Counted, Replayed, Held, Turned};
+ghost use Rattle.replay.specs.Case.{numberAt, recordOf, roomOf, Whole};
+ghost use Rattle.replay.specs.Lent.{patternAt, Patterned, dueAt, Left, Tells};
+ghost use Rattle.replay.specs.Replay.{Recorded, Calls, Shows};
+ghost use Rattle.replay.specs.Count.{Few, Tallies, CanGrow, Counted, Replayed, Turned, Held, Ended};
 use fields::Answer;
 use libc::STDIN_FILENO;
 use libc::STDOUT_FILENO;
@@ -29,7 +28,7 @@ enum Shown {
     Strange,
 }
 
-// The entries by their bytes, a line for each.
+// The entries by their bytes. An entry has a line here, one in `outcome` (specs/Replay.antt) and one in `report`.
 fn call(entry: u8, input: &[u8], room: &mut [u8]) -> Called
     ensures { λ r. ⌜ Calls entry (now (input .entry)) (now (room .entry)) (now (room .exit)) r ⌝ }
 {
@@ -68,7 +67,7 @@ fn due(listing: &[u8], i: usize) -> u8
 
 // Does the room hold the listing, and past it the pattern still?
 fn left(room: &[u8], listing: &[u8]) -> bool
-    ensures { λ r. ⌜ (r ≡ true → Left (now (room .entry)) (now (listing .entry))) × (Left (now (room .entry)) (now (listing .entry)) → r ≡ true) ⌝ }
+    ensures { λ r. ⌜ Tells r (Left (now (room .entry)) (now (listing .entry))) ⌝ }
 {
     if room.len() < listing.len() {
         return false;
@@ -102,7 +101,7 @@ fn number(bytes: &[u8], at: usize) -> usize
 // Are the answer and the room what is recorded?
 fn agrees(a: Answer, recorded: &[u8], room: &[u8]) -> bool
     requires { ⌜ 13 ≤ length (now recorded) ⌝ }
-    ensures { λ r. ⌜ (r ≡ true → (a ≡ answerOf (now (recorded .entry))) × Left (now (room .entry)) (listingOf (now (recorded .entry)))) × ((a ≡ answerOf (now (recorded .entry))) × Left (now (room .entry)) (listingOf (now (recorded .entry))) → r ≡ true) ⌝ }
+    ensures { λ r. ⌜ Tells r (Recorded a (now (recorded .entry)) (now (room .entry))) ⌝ }
 {
     if a.number != recorded[4] {
         return false;
@@ -224,13 +223,17 @@ fn replay(sample: &[u8], room: &mut [u8], cases: &mut [u64], mismatches: &mut [u
 }
 
 // Is `at` the place of the zero that ends the sample?
-fn ends(sample: &[u8], at: usize) -> bool {
-    if at < sample.len() {
-        if sample[at] == 0 {
-            return at + 1 == sample.len();
-        }
+fn ends(sample: &[u8], at: usize) -> bool
+    requires { ⌜ at ≤ length (now sample) ⌝ }
+    ensures { λ r. ⌜ Tells r (Ended (now (sample .entry)) at) ⌝ }
+{
+    if sample.len() - at != 1 {
+        return false;
     }
-    false
+    if sample[at] != 0 {
+        return false;
+    }
+    true
 }
 
 fn print_entry(name: &[u8], entry: u8, cases: &[u64; 256], mismatches: &[u64; 256]) {
@@ -243,7 +246,9 @@ fn print_entry(name: &[u8], entry: u8, cases: &[u64; 256], mismatches: &[u64; 25
     io::write_all(STDOUT_FILENO, b" mismatches\n");
 }
 
-fn print_end(sample: &[u8], at: usize) {
+fn print_end(sample: &[u8], at: usize)
+    requires { ⌜ at ≤ length (now sample) ⌝ }
+{
     if ends(sample, at) {
         io::write_all(STDOUT_FILENO, b"sample whole\n");
         return;

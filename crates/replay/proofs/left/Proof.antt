@@ -3,7 +3,7 @@ use Prim.Native.Nat.{_≤_, _-_}
 use borrow.Author.Count.{below-more}
 use borrow.Author.Needs.{needs}
 use lib.ListN.{length}
-use mathlib.Core.Path.{_≡_, sym, _∙_}
+use mathlib.Core.Path.{sym, _∙_}
 use Rattle.replay.proofs.Rooms.{Compared, short, differs, equals}
 use Rattle.replay.proofs.left.Statement.{statement}
 use Rattle.replay.proofs.left.Tie as tie
