@@ -13,11 +13,8 @@ slice-aggregate-replay-2 c = search needs
 replay-requires : tie.Need-replay-requires
 replay-requires c κs = (record { each = search needs; few = zeros 256 }, record { each = search needs; few = zeros 256 })
 
-slice-aggregate-print-entry : tie.Need-slice-aggregate-print-entry
-slice-aggregate-print-entry c = search needs
-
-print-entry-requires : tie.Need-print-entry-requires
-print-entry-requires c κs = search needs
+print-entries-requires : tie.Need-print-entries-requires
+print-entries-requires c κs = search needs
 
 print-end-requires : tie.Need-print-end-requires
 print-end-requires c κs = search needs
@@ -35,8 +32,7 @@ report-spec =
     slice-aggregate-replay
     slice-aggregate-replay-2
     replay-requires
-    slice-aggregate-print-entry
-    print-entry-requires
+    print-entries-requires
     print-end-requires
     same-length
     returns)
