@@ -37,34 +37,34 @@ climb1-met : {M : Type 1} (t : ℕ) → lts.Closed (tight.Asked, tight.Learnt, l
 climb1-met t = lts.spec (tight.Asked, tight.Learnt, least.Asked, least.Learnt, climb1-below t, climb1.Post, put-pair.Asked, put-pair.Learnt) (climb1-at t) climb1.Post
     Inv-loop
     μ-loop
-    (λ c. begin _ _ _ _ (search needs)) -- loop-holds
-    (λ c κs. (c .before .before .before .pre .1 .0, c .loop .inv .high, c .before .before .before .pre .1 .2)) -- tight-requires
-    (λ c κs. (c .before .before .before .before .before .pre .1 .0, tight-yes _ _ _ (sym (c .before .tight .ensures) ∙ c .if1 .taken) .0, c .before .before .before .before .before .pre .1 .2)) -- least-requires
-    (λ c. search needs) -- add-tight
-    (λ c κs. (c .before .before .before .before .before .before .pre .1 .0, omega (arith, tight-yes _ _ _ (sym (c .before .before .tight .ensures) ∙ c .before .if1 .taken) .0), c .before .before .before .before .before .before .pre .1 .2)) -- tight-requires-2
-    (λ c. search needs) -- add-climb1
-    (λ c. search needs) -- add-climb1-2
+    (λ c. begin _ _ _ _ (search needs))  -- loop-holds
+    (λ c κs. (c .before .before .before .pre .1 .0, c .loop .inv .high, c .before .before .before .pre .1 .2))  -- tight-requires
+    (λ c κs. (c .before .before .before .before .before .pre .1 .0, tight-yes _ _ _ (sym (c .before .tight .ensures) ∙ c .if1 .taken) .0, c .before .before .before .before .before .pre .1 .2))  -- least-requires
+    (λ c. search needs)  -- add-tight
+    (λ c κs. (c .before .before .before .before .before .before .pre .1 .0, omega (arith, tight-yes _ _ _ (sym (c .before .before .tight .ensures) ∙ c .before .if1 .taken) .0), c .before .before .before .before .before .before .pre .1 .2))  -- tight-requires-2
+    (λ c. search needs)  -- add-climb1
+    (λ c. search needs)  -- add-climb1-2
     (λ c κs.
-      let y = tight-yes _ _ _ (sym (c .before .before .before .before .before .tight .ensures) ∙ c .before .before .before .before .if1 .taken) in
-      let p = c .before .before .before .before .before .before .before .before .before .pre .1 in
-      (omega arith, (p .0, omega arith, p .2, asks _ (p .0) _ _ (c .before .before .before .least .ensures)))) -- climb1-requires
-    (λ c. omega (arith, c .before .before .before .before .before .before .before .before .before .before .loop .inv .high, c .before .before .before .before .before .before .before .before .before .before .before .before .before .pre .1 .2)) -- mul-put-pair
-    (λ c. omega (arith, c .before .before .before .before .before .before .before .before .before .before .loop .inv .high, c .before .before .before .before .before .before .before .before .before .before .before .before .before .pre .1 .2)) -- add-put-pair
-    (λ c κs. omega (arith, c .before .before .before .before .before .before .before .before .before .before .loop .inv .high, c .before .before .before .before .before .before .before .before .before .before .before .before .before .pre .1 .2)) -- put-pair-requires
+    let y = tight-yes _ _ _ (sym (c .before .before .before .before .before .tight .ensures) ∙ c .before .before .before .before .if1 .taken) in
+    let p = c .before .before .before .before .before .before .before .before .before .pre .1 in
+    (omega arith, (p .0, omega arith, p .2, asks _ (p .0) _ _ (c .before .before .before .least .ensures))))  -- climb1-requires
+    (λ c. omega (arith, c .before .before .before .before .before .before .before .before .before .before .loop .inv .high, c .before .before .before .before .before .before .before .before .before .before .before .before .before .pre .1 .2))  -- mul-put-pair
+    (λ c. omega (arith, c .before .before .before .before .before .before .before .before .before .before .loop .inv .high, c .before .before .before .before .before .before .before .before .before .before .before .before .before .pre .1 .2))  -- add-put-pair
+    (λ c κs. omega (arith, c .before .before .before .before .before .before .before .before .before .before .loop .inv .high, c .before .before .before .before .before .before .before .before .before .before .before .before .before .pre .1 .2))  -- put-pair-requires
     (λ c.
-      let p = passed _ (c .before .before .before .before .before .before .before .before .before .before .before .before .before .before .before .before .pre .1 .0) 0 _ _ _ _ _ (c .before .before .before .before .before .before .before .before .before .before .before .before .before .loop .inv) (sym (c .before .before .before .before .before .before .before .before .before .before .before .before .tight .ensures) ∙ c .before .before .before .before .before .before .before .before .before .before .before .if1 .taken) _ (c .before .before .before .before .before .before .before .before .before .before .least .ensures) _ _ (c .before .before .before .before .before .before .climb1 .ensures) in
-      let w = within _ (c .before .before .before .before .before .before .before .before .before .before .before .before .before .before .before .before .pre .1 .0) 0 _ _ _ _ _ (c .before .before .before .before .before .before .before .before .before .before .before .before .before .loop .inv) (sym (c .before .before .before .before .before .before .before .before .before .before .before .before .tight .ensures) ∙ c .before .before .before .before .before .before .before .before .before .before .before .if1 .taken) _ (c .before .before .before .before .before .before .before .before .before .before .least .ensures) _ _ (c .before .before .before .before .before .before .climb1 .ensures) in
-      omega arith) -- loop-less
-    (λ c. again _ (c .before .before .before .before .before .before .before .before .before .before .before .before .before .before .before .before .pre .1 .0) _ _ _ _ _ _ (c .before .before .before .before .before .before .before .before .before .before .before .before .before .loop .inv) (sym (c .before .before .before .before .before .before .before .before .before .before .before .before .tight .ensures) ∙ c .before .before .before .before .before .before .before .before .before .before .before .if1 .taken) _ (c .before .before .before .before .before .before .before .before .before .before .least .ensures) _ _ (c .before .before .before .before .before .before .climb1 .ensures) (c .before .before .before .before .before .before .before .before .before .before .before .before .before .before .before .before .pre .1 .3) _ (c .before .before .put-pair .ensures .1) (c .before .before .before .before .before .before .climb1 .kept .1 .1 .1 .1 .0)) -- loop-again
-    (λ c. omega (arith, c .before .before .before .before .before .before .loop .inv .high, c .before .before .before .before .before .before .before .before .before .pre .1 .2)) -- mul-put-pair-2
-    (λ c. omega (arith, c .before .before .before .before .before .before .loop .inv .high, c .before .before .before .before .before .before .before .before .before .pre .1 .2)) -- add-put-pair-2
-    (λ c. omega (arith, c .before .before .before .before .before .before .loop .inv .high, c .before .before .before .before .before .before .before .before .before .pre .1 .2)) -- add-put-pair-3
-    (λ c κs. omega (arith, c .before .before .before .before .before .before .loop .inv .high, c .before .before .before .before .before .before .before .before .before .pre .1 .2)) -- put-pair-requires-2
-    (λ c. omega (arith, c .before .before .before .before .before .before .before .before .before .loop .inv .high, c .before .before .before .before .before .before .before .before .before .before .before .before .pre .1 .2)) -- add-i
-    (λ c. omega (arith, tight-yes _ _ _ (sym (c .before .before .before .before .before .before .before .before .tight .ensures) ∙ c .before .before .before .before .before .before .before .if1 .taken) .0)) -- loop-less-2
-    (λ c. again _ (c .before .before .before .before .before .before .before .before .before .before .before .before .pre .1 .0) _ _ _ _ _ _ (c .before .before .before .before .before .before .before .before .before .loop .inv) (sym (c .before .before .before .before .before .before .before .before .tight .ensures) ∙ c .before .before .before .before .before .before .before .if1 .taken) _ (c .before .before .before .before .before .before .least .ensures) _ _ (alone _ (c .before .before .before .before .before .before .before .before .before .before .before .before .pre .1 .0) _ _ _ (omega (arith, tight-yes _ _ _ (sym (c .before .before .before .before .before .before .before .before .tight .ensures) ∙ c .before .before .before .before .before .before .before .if1 .taken) .0)) (sym (c .before .before .before .before .before .tight2 .ensures) ∙ c .before .before .before .before .if2 .left)) (c .before .before .before .before .before .before .before .before .before .before .before .before .pre .1 .3) _ (c .before .before .put-pair2 .ensures .1) refl) -- loop-again-2
-    (λ c. c .before .before .loop .inv .size) -- same-length
-    (λ c. done _ (c .before .before .before .before .before .pre .1 .0) 0 _ _ _ _ _ (c .before .before .loop .inv) (sym (c .before .tight .ensures) ∙ c .if1 .left)) -- returns
+    let p = passed _ (c .before .before .before .before .before .before .before .before .before .before .before .before .before .before .before .before .pre .1 .0) 0 _ _ _ _ _ (c .before .before .before .before .before .before .before .before .before .before .before .before .before .loop .inv) (sym (c .before .before .before .before .before .before .before .before .before .before .before .before .tight .ensures) ∙ c .before .before .before .before .before .before .before .before .before .before .before .if1 .taken) _ (c .before .before .before .before .before .before .before .before .before .before .least .ensures) _ _ (c .before .before .before .before .before .before .climb1 .ensures) in
+    let w = within _ (c .before .before .before .before .before .before .before .before .before .before .before .before .before .before .before .before .pre .1 .0) 0 _ _ _ _ _ (c .before .before .before .before .before .before .before .before .before .before .before .before .before .loop .inv) (sym (c .before .before .before .before .before .before .before .before .before .before .before .before .tight .ensures) ∙ c .before .before .before .before .before .before .before .before .before .before .before .if1 .taken) _ (c .before .before .before .before .before .before .before .before .before .before .least .ensures) _ _ (c .before .before .before .before .before .before .climb1 .ensures) in
+    omega arith)  -- loop-less
+    (λ c. again _ (c .before .before .before .before .before .before .before .before .before .before .before .before .before .before .before .before .pre .1 .0) _ _ _ _ _ _ (c .before .before .before .before .before .before .before .before .before .before .before .before .before .loop .inv) (sym (c .before .before .before .before .before .before .before .before .before .before .before .before .tight .ensures) ∙ c .before .before .before .before .before .before .before .before .before .before .before .if1 .taken) _ (c .before .before .before .before .before .before .before .before .before .before .least .ensures) _ _ (c .before .before .before .before .before .before .climb1 .ensures) (c .before .before .before .before .before .before .before .before .before .before .before .before .before .before .before .before .pre .1 .3) _ (c .before .before .put-pair .ensures .1) (c .before .before .before .before .before .before .climb1 .kept .1 .1 .1 .1 .0))  -- loop-again
+    (λ c. omega (arith, c .before .before .before .before .before .before .loop .inv .high, c .before .before .before .before .before .before .before .before .before .pre .1 .2))  -- mul-put-pair-2
+    (λ c. omega (arith, c .before .before .before .before .before .before .loop .inv .high, c .before .before .before .before .before .before .before .before .before .pre .1 .2))  -- add-put-pair-2
+    (λ c. omega (arith, c .before .before .before .before .before .before .loop .inv .high, c .before .before .before .before .before .before .before .before .before .pre .1 .2))  -- add-put-pair-3
+    (λ c κs. omega (arith, c .before .before .before .before .before .before .loop .inv .high, c .before .before .before .before .before .before .before .before .before .pre .1 .2))  -- put-pair-requires-2
+    (λ c. omega (arith, c .before .before .before .before .before .before .before .before .before .loop .inv .high, c .before .before .before .before .before .before .before .before .before .before .before .before .pre .1 .2))  -- add-i
+    (λ c. omega (arith, tight-yes _ _ _ (sym (c .before .before .before .before .before .before .before .before .tight .ensures) ∙ c .before .before .before .before .before .before .before .if1 .taken) .0))  -- loop-less-2
+    (λ c. again _ (c .before .before .before .before .before .before .before .before .before .before .before .before .pre .1 .0) _ _ _ _ _ _ (c .before .before .before .before .before .before .before .before .before .loop .inv) (sym (c .before .before .before .before .before .before .before .before .tight .ensures) ∙ c .before .before .before .before .before .before .before .if1 .taken) _ (c .before .before .before .before .before .before .least .ensures) _ _ (alone _ (c .before .before .before .before .before .before .before .before .before .before .before .before .pre .1 .0) _ _ _ (omega (arith, tight-yes _ _ _ (sym (c .before .before .before .before .before .before .before .before .tight .ensures) ∙ c .before .before .before .before .before .before .before .if1 .taken) .0)) (sym (c .before .before .before .before .before .tight2 .ensures) ∙ c .before .before .before .before .if2 .left)) (c .before .before .before .before .before .before .before .before .before .before .before .before .pre .1 .3) _ (c .before .before .put-pair2 .ensures .1) refl)  -- loop-again-2
+    (λ c. c .before .before .loop .inv .size)  -- same-length
+    (λ c. done _ (c .before .before .before .before .before .pre .1 .0) 0 _ _ _ _ _ (c .before .before .loop .inv) (sym (c .before .tight .ensures) ∙ c .if1 .left))  -- returns
 
 pub +climb1-spec : {M : Type 1} → statement M
 +climb1-spec = close μ-climb1 climb1-met

@@ -98,7 +98,7 @@ same-length c = search needs
 -- src/lib.rt:77:9
 returns : tie.Need-returns
 unfolding overlay field number
-returns c = 
+returns c =
     let at = c .before .before .args .at in
     let e₁ : at + 1 ≡ suc at = omega arith in
     let e₂ : at + 2 ≡ suc (suc at) = omega arith in
