@@ -1,9 +1,12 @@
 // Replays a recorded sample of the Rust's answers, so that the crates are tried against the Rust where no Rust is at hand.
-// Standard input holds the sample, case after case, and a zero byte in the place of an entry at its very end. Each case is an
-// input and a room's length, and the answer and the listing that the Rust gives. The entry is called on the same input, in a
-// room filled with a pattern, and all that it gives and leaves is compared with what is recorded.
-// Printed are the cases and mismatches of each entry, and whether the sample is whole, or where its first byte stands that is
-// no part of a case: a case cut short, an unknown entry, a room longer than there is, bytes behind the end.
+// Standard input holds the sample: case after case, and a zero byte in the place of an entry at its very end. (Samples are
+// joined by leaving out the zero of each but the last.) A case is an input and a room's length, and the answer and the listing
+// that the Rust gives. The entry is called on that input, in a room filled with a pattern, and all that it gives and leaves is
+// compared with what is recorded.
+// Printed are the cases and the mismatches of each entry, and whether the sample is whole, or where it breaks: the place of a
+// case that is cut short, has an unknown entry or asks for a longer room than there is, or of an end with bytes behind it.
+// Proved is, beside that nothing is read past the sample's end: where no mismatch is counted, each recorded case is what the
+// definition of its entry gives (`replay`), and a case that is counted as a mismatch is not (`show`).
 ghost use mathlib.Core.Path.{_≡_};
 ghost use Prim.Native.Nat.{_+_, _≤_, _<_, _^_};
 ghost use lib.ListN.{length, take};
@@ -207,7 +210,7 @@ fn turn(
     }
 }
 
-// Replays case after case, and gives the place behind the last.
+// Replays case after case, and gives the place behind the last: every case before it holds if no mismatch is counted.
 fn replay(sample: &[u8], room: &mut [u8], cases: &mut [u64], mismatches: &mut [u64]) -> usize
     requires { ⌜ Tallies (now cases) 0 × Tallies (now mismatches) 0 ⌝ }
     ensures { λ r. ⌜ (r ≤ length (now (sample .entry))) × (Few (now (mismatches .exit)) 0 → Held (now (sample .entry)) r) ⌝ }
@@ -271,6 +274,7 @@ fn report(sample: &[u8], room: &mut [u8]) {
     print_end(sample, at);
 }
 
+// At most 524,288 bytes are read: a longer sample is cut there.
 fn main() {
     let mut sample = [0u8; 524288];
     let mut room = [0u8; 131072];
