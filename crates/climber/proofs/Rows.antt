@@ -201,11 +201,11 @@ module _ (row : List ℕ) where
       (eq-or-lt-of-le (le-of-suc-le-suc b))
 
   -- at the head, every operator that stands in no row starts at the head
-  pub starts-head : (end : ℕ) → Starts row 0 0 end
+  pub starts-head : (end : ℕ) → Starts row 0 end
   unfolding leftmost
   starts-head end = λ i h k f. none i i (λ j l. f j (omega arith) l)
 
   -- in the row of o, every operator that stands in no row of those between starts after o
-  pub starts-row : (o end : ℕ) → end ≡ rightmost row o → Starts row (suc o) (suc o) end
+  pub starts-row : (o end : ℕ) → end ≡ rightmost row o → Starts row (suc o) end
   unfolding leftmost
   starts-row o end e = λ i h k f. holds i o i (rw e at k) h f

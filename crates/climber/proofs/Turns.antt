@@ -51,10 +51,10 @@ begin row from min d h = record { low = omega arith; high = h; same = refl; past
 
 module _ (row : List ℕ) (f : Formed row) where
   -- what the call for the row of i asks
-  pub asks : (i m : ℕ) → m ≡ least row i → Starts row (i + 1) (i + 1) (climbed row m (i + 1))
+  pub asks : (i m : ℕ) → m ≡ least row i → Starts row (i + 1) (climbed row m (i + 1))
   asks i m e = rw (e, add-one) (starts-row row i (climbed row (least row i) (suc i)) (sym (rightmost-climbed row f i)))
 
-  module _ (first from min : ℕ) (d₀ : List ℕ) (i : ℕ) (d : List ℕ) (g : Going row from min d₀ i d) where
+  module _ (from min : ℕ) (d₀ : List ℕ) (i : ℕ) (d : List ℕ) (g : Going row from min d₀ i d) where
     -- the loop ends before i
     pub done : tight row i min ≡ false → Climbs row from min i d₀ d
     done h =
@@ -89,12 +89,12 @@ module _ (row : List ℕ) (f : Formed row) where
           ]
 
       -- i is put, behind its row
-      pub again : Starts row first from (climbed row min from) → (d₂ : List ℕ) → d₂ ≡ overlay d₁ (4 + 7 * i) (field 0x0B (number 2 first ++ number 2 next)) → length d₁ ≡ length d → Going row from min d₀ next d₂
+      pub again : Starts row from (climbed row min from) → (d₂ : List ℕ) → d₂ ≡ overlay d₁ (4 + 7 * i) (field 0x0B (number 2 from ++ number 2 next)) → length d₁ ≡ length d → Going row from min d₀ next d₂
       again s d₂ e l =
           let on : climbed row min i ≡ climbed row min next = climbed-skip row min i next (omega (arith, passed)) within between in
           let b : i < climbed row min from = omega (arith, passed, g .same, climbed-low row min next) in
-          let left : leftmost row i ≡ first = s i (g .low) b (g .past) in
-          let own : field 0x0B (number 2 first ++ number 2 next) ≡ operator row i = as-operator row i first next left ends in
+          let left : leftmost row i ≡ from = s i (g .low) b (g .past) in
+          let own : field 0x0B (number 2 from ++ number 2 next) ≡ operator row i = as-operator row i from next left ends in
           record {
             low = omega (arith, passed, g .low);
             high = within;
@@ -106,4 +106,4 @@ module _ (row : List ℕ) (f : Formed row) where
 
   -- no operator behind i stands in its row
   pub alone : (at m : ℕ) (d : List ℕ) → at ≤ count row → tight row at m ≡ false → Climbs row at m at d d
-  alone at m d h t = done 0 at m d at d (begin row at m d h) t
+  alone at m d h t = done at m d at d (begin row at m d h) t

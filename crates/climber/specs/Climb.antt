@@ -27,9 +27,9 @@ pub record Formed (row : List ℕ) : Type 0 where
   pub even : length row % 2 ≡ 0
   pub sides : (i : ℕ) → side row i ≤ 1
 
--- `first` is the leftmost operand of each operator from `from` on, below `end`, that stands in no row of those before it
-abbrev pub Starts : List ℕ → ℕ → ℕ → ℕ → Type 0
-Starts row first from end = (i : ℕ) → from ≤ i → i < end → ((j : ℕ) → from ≤ j → j < i → rightmost row j ≤ i) → leftmost row i ≡ first
+-- operand `from` is the leftmost one of each operator from `from` on, below `end`, that stands in no row of those before it
+abbrev pub Starts : List ℕ → ℕ → ℕ → Type 0
+Starts row from end = (i : ℕ) → from ≤ i → i < end → ((j : ℕ) → from ≤ j → j < i → rightmost row j ≤ i) → leftmost row i ≡ from
 
 -- what a call of `climb1` gives: the end of the row, and the room with the row's operators in it
 pub record Climbs (row : List ℕ) (from min r : ℕ) (d d′ : List ℕ) : Type 0 where

@@ -57,21 +57,21 @@ fn least(row: &[u8], i: usize) -> usize
     p + (1 - s)
 }
 
-// Puts the operators from `from` on that are each at least min tight: `first` is the leftmost operand of those of them
+// Puts the operators from `from` on that are each at least min tight. Operand `from` is the leftmost one of those of them
 // that stand in no other's row. Gives the first operator behind them.
-fn climb1(row: &[u8], first: usize, from: usize, min: usize, out: &mut [u8]) -> usize
-    requires { ⌜ Formed (now row) × (from ≤ count (now row)) × (length (now row) ≤ 2048) × Starts (now row) first from (climbed (now row) min from) ⌝ }
+fn climb1(row: &[u8], from: usize, min: usize, out: &mut [u8]) -> usize
+    requires { ⌜ Formed (now row) × (from ≤ count (now row)) × (length (now row) ≤ 2048) × (4 + 7 * count (now row) ≤ length (now out)) × Starts (now row) from (climbed (now row) min from) ⌝ }
     ensures { λ r. ⌜ Climbs (now (row .entry)) from min r (now (out .entry)) (now (out .exit)) ⌝ }
 {
     let mut i = from;
     while tight(row, i, min) {
         let least = least(row, i);
         if tight(row, i + 1, least) {
-            let next = climb1(row, i + 1, i + 1, least, out);
-            fields::put_pair(out, 4 + 7 * i, 0x0B, first, next);
+            let next = climb1(row, i + 1, least, out);
+            fields::store_pair(out, 4 + 7 * i, 0x0B, from, next);
             i = next;
         } else {
-            fields::put_pair(out, 4 + 7 * i, 0x0B, first, i + 1);
+            fields::store_pair(out, 4 + 7 * i, 0x0B, from, i + 1);
             i = i + 1;
         }
     }
@@ -107,7 +107,7 @@ pub fn climb(row: &[u8], out: &mut [u8]) -> Answer
             };
         }
         fields::put(out, 0, b"\x00\x01\x00\x01");
-        climb1(row, 0, 0, 0, out);
+        climb1(row, 0, 0, out);
         return Answer {
             number: 0,
             length,

@@ -61,19 +61,27 @@ fn pair(tag: u8, a: usize, b: usize) -> [u8; 7]
     ]
 }
 
-// Puts a field of two numbers: a record of 7 bytes. Where it fits, which is nearly always, each byte is stored at once.
+// Stores a field of two numbers, for which there is room: a record of 7 bytes, each byte at once.
+pub fn store_pair(out: &mut [u8], at: usize, tag: u8, a: usize, b: usize)
+    requires { ⌜ at + 7 ≤ length (now out) ⌝ }
+    ensures { λ _. ⌜ now (out .exit) ≡ overlay (now (out .entry)) at (field tag (number 2 a ++ number 2 b)) ⌝ }
+{
+    out[at] = tag;
+    out[at + 1] = 4;
+    out[at + 2] = 0;
+    out[at + 3] = (a % 256) as u8;
+    out[at + 4] = (a / 256 % 256) as u8;
+    out[at + 5] = (b % 256) as u8;
+    out[at + 6] = (b / 256 % 256) as u8;
+}
+
+// Puts a field of two numbers, as far as there is room, which nearly always there is.
 pub fn put_pair(out: &mut [u8], at: usize, tag: u8, a: usize, b: usize) -> usize
     requires { ⌜ at + 7 < 2 ^ 64 ⌝ }
     ensures { λ r. ⌜ (r ≡ at + 7) × (now (out .exit) ≡ overlay (now (out .entry)) at (field tag (number 2 a ++ number 2 b))) ⌝ }
 {
     if at + 7 <= out.len() {
-        out[at] = tag;
-        out[at + 1] = 4;
-        out[at + 2] = 0;
-        out[at + 3] = (a % 256) as u8;
-        out[at + 4] = (a / 256 % 256) as u8;
-        out[at + 5] = (b % 256) as u8;
-        out[at + 6] = (b / 256 % 256) as u8;
+        store_pair(out, at, tag, a, b);
         return at + 7;
     }
     let bytes = pair(tag, a, b);

@@ -49,7 +49,7 @@ put-requires c κs = search needs
 climb1-requires : tie.Need-climb1-requires
 climb1-requires c κs =
     let f = formed-sides _ (sym (c .before .before .before .before .before .before .before .before .before .formed .ensures) ∙ c .before .before .before .before .before .before .before .before .if2 .taken) in
-    (f, omega arith, omega (arith, f .even), starts-head _ _)
+    (f, omega arith, omega (arith, f .even), omega (arith, c .before .before .before .put .kept .0), starts-head _ _)
 
 -- src/lib.rt:105:9
 same-length : tie.Need-same-length
