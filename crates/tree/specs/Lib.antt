@@ -6,3 +6,6 @@ pub mod Rose
 pub mod Grammar
 pub mod Scan
 pub mod Form
+pub mod Match
+pub mod Meaning
+pub mod Steps
