@@ -4,7 +4,8 @@
 Run from the repository's root, then `rt fmt`. Writes crates/tree/specs/Table.antt and the three tables of
 crates/tree/src/table.rt: the tables stand twice, in the definitions and in the code, and the code's proofs show them
 equal. Also writes crates/tree/specs/Steps.antt, the regular clauses that say of each tag which part of a tree its field
-is: there each row stands once more, written out, and the prover compares it with the table.
+is: there each row stands once more, written out, and the prover compares it with the table. And, in
+crates/tree/specs/Obeyed.antt, the clauses between the lines "made" and "end of what is made", for the other way.
 
 An item of a row is eight times the class; and 0 for one member, 1 for none or one, 2 for any number, 3 for any number
 of this class or of terms; and 4 more if the row may end before it. A row ends with 4. Row 0 is that of the bytes
@@ -269,9 +270,93 @@ all-steps = {tuple_}
 """)
 
 
+# ---- the other way: the fields of a tree obey the table
+
+# of each constructor the pattern, and its members in the order of the row; p is the place
+MEMBERS = {
+    0x8C: ('def p f xs t', 'f xs t'), 0x98: ('pVar p x', ''), 0x99: ('pArr p xs', 'xs'), 0x9A: ('pObj p es', 'es'),
+    0xA0: ('tId p', ''), 0xA1: ('tRecurse p', ''), 0xA2: ('tArr p o', 'o'), 0xA3: ('tNeg p t', 't'), 0xA4: ('tLabel p x t', 'x t'), 0xA5: ('tBreak p x', ''),
+    0xA7: ('tVar p x', ''), 0xA8: ('tCall p f ts', 'f ts'), 0xA9: ('tDef p ds t', 'ds t'), 0xAA: ('tNum p x', ''), 0xAB: ('tTryCatch p t o', 't o'),
+    0xAC: ('tFold p f t x ts', 'f t x ts'), 0xAE: ('tPath p t ps', 't ps'), 0xB0: ('tObj p es', 'es'),
+    0xBE: ('partIndex p t m', 't m'), 0xBF: ('partRange p a z m', 'a z m'),
+}
+# a member's class and field, that it is of its class, that it obeys
+ONE = {'TERM': ('fTerm {}', 'class-term {}', 'o-term {}'), 'PATTERN': ('fPattern {}', 'class-pattern {}', 'o-pattern {}'), 'name': ('fName 0x90 {}', 'refl', 'refl')}
+# the function of an optional member or a list, and the lemma on it
+SOME = {'TERM?': ('fOptTerm', 'o-opt-term'), 'TERM*': ('fTerms', 'o-terms'), 'definition*': ('fDefs', 'o-defs'), 'parameter*': ('fNames 0x91', 'o-names 0x91 15 refl refl'),
+        'PATTERN?': ('fOptPattern', 'o-opt-pattern'), 'PATTERN*': ('fPatterns', 'o-patterns'), 'patentry*': ('fPatEntries', 'o-pat-entries'), 'part*': ('fParts', 'o-parts'),
+        'entry*': ('fEntries', 'o-entries'), 'optional?': ('fMark', 'o-mark'),
+        'from?': ('fBound 0xC1', 'o-bound 0xC1 26 good-from refl'), 'upto?': ('fBound 0xC2', 'o-bound 0xC2 27 good-upto refl')}
+
+
+def parse(word):
+    name, mode = re.fullmatch(r'(\w+)(\?|\*|\|TERM\*)?', word).groups()
+    return CLASS[name], MODE[mode or '']
+
+
+def shown(items):
+    text = 'end'
+    for c, m in reversed(items):
+        text = f"{['one', 'opt', 'many', 'mix'][m]} {c} {paren(text)}"
+    return paren(text)
+
+
+def after(items, c):
+    for i, (k, m) in enumerate(items):
+        if k == c:
+            return items[i:] if m >= 2 else items[i + 1:]
+        assert m
+    assert False
+
+
+def roses(words, names):
+    if not words:
+        return 'rnil'
+    rest = roses(words[1:], names[1:])
+    if words[0] in ONE:
+        return f'(rcons ({ONE[words[0]][0].format(names[0])}) {rest})'
+    return f'({SOME[words[0]][0]} {names[0]} {rest})'
+
+
+def good(items, words, names):
+    """That the members fit what the row may still be, and obey."""
+    if not words:
+        return '(refl, tt)'
+    c, mode = parse(words[0])
+    rest = roses(words[1:], names[1:])
+    if words[0] in ONE:
+        field, of_class, obeys = (x.format(names[0]) for x in ONE[words[0]])
+        return f'(good-one {shown(items)} ({field}) {rest} {c} ({of_class}) ({obeys}) {good(after(items, c), words[1:], names[1:])})'
+    lemma = SOME[words[0]][1]
+    if mode >= 2:
+        return f'({lemma} {shown(items)} refl {names[0]} {rest} {good(items, words[1:], names[1:])})'
+    return f'({lemma} {shown(items)} {names[0]} {rest} {good(items, words[1:], names[1:])} {good(after(items, c), words[1:], names[1:])})'
+
+
+def clause(function, tag):
+    content = dict((t, c) for t, _, c in FORM)[tag]
+    pattern, names = MEMBERS[tag]
+    if isinstance(content, int):
+        return f'  {function} ({pattern}) = refl\n'
+    words, names = content.split(), names.split()
+    return f'  {function} ({pattern}) = good-node 0x{tag:02X} p {roses(words, names)} refl {good([parse(w) for w in words], words, names)}\n'
+
+
+def write_obeyed():
+    path = 'crates/tree/specs/Obeyed.antt'
+    text = open(path).read()
+    for function, tags in (('o-term', [t for t, c, _ in FORM if c == 'TERM' and t not in (0xA6, 0xAD, 0xAF)]), ('o-def', [0x8C]), ('o-pattern', [0x98, 0x99, 0x9A]), ('o-part', [0xBE, 0xBF])):
+        clauses = ''.join(clause(function, t) for t in tags)
+        begin, end = f'  -- made: {function}\n', '  -- end of what is made\n'
+        i = text.index(begin) + len(begin)
+        text = text[:i] + clauses + text[text.index(end, i):]
+    open(path, 'w').write(text)
+
+
 if __name__ == '__main__':
     t = tables()
     write_spec(*t)
     write_code(*t)
     write_steps()
+    write_obeyed()
     print('classes and shapes', len(t[0]), 'items', len(t[2]))

@@ -9,3 +9,5 @@ pub mod Form
 pub mod Match
 pub mod Meaning
 pub mod Steps
+pub mod Typed
+pub mod Obeyed
