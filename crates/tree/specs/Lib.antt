@@ -11,3 +11,5 @@ pub mod Meaning
 pub mod Steps
 pub mod Typed
 pub mod Obeyed
+pub mod Wf
+pub mod Nest
