@@ -1,10 +1,12 @@
 -- The class and the content of a tag; what the bytes of a leaf may be. Assumes nothing.
-use Prim.Native.Nat.{ℕ, suc}
+use Prim.Native.Nat.{ℕ}
 use mathlib.Core.List.{List, [], _∷_}
 use mathlib.Core.Bool.{Bool, true, false, cond}
-use lib.Dec.{eqb, ltb, leb}
+use lib.Dec.{eqb, leb}
 use lib.ListN.{length, getD}
 use Rattle.fields.specs.Number.{value}
+use Rattle.text.specs.Utf8.{isScalar}
+use Rattle.text.specs.Valid.{validPrefix}
 use Rattle.tree.specs.Table.{classes, shapes}
 use Rattle.tree.specs.Tree.{Operator, oComma, oAlt, oOr, oAnd, oAssign, oUpdate, oUpdateAlt, oMath, oUpdateMath, oCmp, oNone, operatorOf}
 
@@ -22,11 +24,7 @@ abbrev pub both : Bool → Bool → Bool
 both true x = x
 both false x = false
 
--- "texts are UTF-8"
-unfoldable pub validPrefix : List ℕ → ℕ
-validPrefix [] = 0
-validPrefix (x ∷ xs) = cond (ltb x 128) (suc (validPrefix xs)) 0
-
+-- "texts are UTF-8": the longest valid prefix is the whole
 unfoldable pub text : List ℕ → Bool
 text x = eqb (validPrefix x) (length x)
 
@@ -51,9 +49,6 @@ listed oNone = false
 
 unfoldable pub isOperator : ℕ → Bool
 isOperator k = listed (operatorOf k)
-
-unfoldable pub isScalar : ℕ → Bool
-isScalar v = cond (ltb v 0xD800) true (both (leb 0xE000 v) (ltb v 0x110000))
 
 -- the content of a leaf, of each kind that the table has
 unfoldable pub leafOk : ℕ → List ℕ → Bool
