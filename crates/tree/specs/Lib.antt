@@ -13,3 +13,7 @@ pub mod Typed
 pub mod Obeyed
 pub mod Wf
 pub mod Nest
+pub mod Numbers
+pub mod Verdict
+pub mod Back
+pub mod Unique

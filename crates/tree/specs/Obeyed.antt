@@ -33,7 +33,7 @@ good-more g r rs c a e o w = good-one g r rs c e o (subst (λ (j : Items). Good 
 
 -- ---- classes
 
-class-term : (t : Term) → class (tagOf (fTerm t)) ≡ 18
+pub class-term : (t : Term) → class (tagOf (fTerm t)) ≡ 18
 unfolding class classes fTerm
 class-term (tId p) = refl
 class-term (tRecurse p) = refl
@@ -60,7 +60,7 @@ class-pattern (pVar p x) = refl
 class-pattern (pArr p xs) = refl
 class-pattern (pObj p es) = refl
 
-class-def : (d : Def) → class (tagOf (fDef d)) ≡ 12
+pub class-def : (d : Def) → class (tagOf (fDef d)) ≡ 12
 unfolding class classes fTerm
 class-def (def p f xs t) = refl
 
