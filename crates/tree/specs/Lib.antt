@@ -17,3 +17,4 @@ pub mod Numbers
 pub mod Verdict
 pub mod Back
 pub mod Unique
+pub mod Encoded

@@ -18,7 +18,7 @@ mutual
   unfolding rose.At Obeys
 
   one-rose : (b : List ℕ) (r s : Rose) → rose.At b r → rose.At b s → Obeys r → Obeys s → placeOf r ≡ placeOf s → r ≡ s
-  one-rose b (leaf k p x) (leaf k′ p′ x′) h g o u q = cc (h .0 .tagged, g .0 .tagged, h .1, g .1, ap (textOf b) q, ap (λ (j : ℕ). getD b j 0) q)
+  one-rose b (leaf k p x) (leaf k′ p′ x′) h g o u q = cc (h .0 .tagged, g .0 .tagged, h .1, g .1)
   one-rose b (leaf k p x) (node k′ p′ rs′) h g o u q =
       let e : k ≡ k′ = sym (h .0 .tagged) ∙ ap (λ (j : ℕ). getD b j 0) q ∙ g .0 .tagged in
       not-both (isLeaf k) o (ap isLeaf e ∙ u .0)
