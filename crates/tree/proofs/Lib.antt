@@ -1,1 +1,6 @@
 pub mod Tables
+pub mod Rows
+pub mod Leaves
+pub mod Headers
+pub mod Decides
+pub mod Deep

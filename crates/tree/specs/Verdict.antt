@@ -6,7 +6,8 @@ use native.Mathlib.Nat.{max-zero}
 use native.Mathlib.Omega.{arith}
 use mathlib.Core.Path.{_≡_, refl, sym, subst}
 use mathlib.Core.List.{List, []}
-use mathlib.Core.Bool.{true}
+use mathlib.Core.Bool.{true, cond}
+use lib.Dec.{leb}
 use lib.ListN.{length}
 use Rattle.tree.specs.Rose.{rnil, rcons}
 use Rattle.tree.specs.Tree.{Tree}
@@ -34,6 +35,10 @@ pub data Says (b : List ℕ) : ℕ → Type 0 where
   wrong : length b ≤ 32768 → ((t : Tree) → Encodes b t → ⊥) → Says b 3
   deep : length b ≤ 32768 → (t : Tree) → Encodes b t → 512 < nesting t → Says b 4
   nested : length b ≤ 32768 → (t : Tree) → Encodes b t → nesting t ≤ 512 → 64 < defining t → Says b 5
+
+-- what a tree that is well formed comes to
+unfoldable pub limits : Tree → ℕ
+limits t = cond (leb (nesting t) 512) (cond (leb (defining t) 64) 0 5) 4
 
 -- ---- by the walk
 

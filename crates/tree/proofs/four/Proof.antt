@@ -1,0 +1,100 @@
+use borrow.Author.Needs.{needs}
+use Rattle.tree.proofs.four.Statement.{statement}
+use Rattle.tree.proofs.four.Tie as tie
+use Rattle.tree.proofs.four.Reads as reads
+use Rattle.tree.proofs.four.Lts as lts
+
+-- src/lib.rt:143:6
+shared-slice-read-result : tie.Need-shared-slice-read-result
+shared-slice-read-result c = search needs
+
+-- src/lib.rt:143:6
+cast-result : tie.Need-cast-result
+cast-result c = ?
+
+-- src/lib.rt:143:24
+add-result : tie.Need-add-result
+add-result c = search needs
+
+-- src/lib.rt:143:22
+shared-slice-read-result-2 : tie.Need-shared-slice-read-result-2
+shared-slice-read-result-2 c = search needs
+
+-- src/lib.rt:143:22
+cast-result-2 : tie.Need-cast-result-2
+cast-result-2 c = ?
+
+-- src/lib.rt:143:21
+mul-result : tie.Need-mul-result
+mul-result c = ?
+
+-- src/lib.rt:143:5
+add-result-2 : tie.Need-add-result-2
+add-result-2 c = ?
+
+-- src/lib.rt:143:52
+add-result-3 : tie.Need-add-result-3
+add-result-3 c = search needs
+
+-- src/lib.rt:143:50
+shared-slice-read-result-3 : tie.Need-shared-slice-read-result-3
+shared-slice-read-result-3 c = search needs
+
+-- src/lib.rt:143:50
+cast-result-3 : tie.Need-cast-result-3
+cast-result-3 c = ?
+
+-- src/lib.rt:143:49
+mul-result-2 : tie.Need-mul-result-2
+mul-result-2 c = ?
+
+-- src/lib.rt:143:5
+add-result-4 : tie.Need-add-result-4
+add-result-4 c = ?
+
+-- src/lib.rt:143:82
+add-result-5 : tie.Need-add-result-5
+add-result-5 c = search needs
+
+-- src/lib.rt:143:80
+shared-slice-read-result-4 : tie.Need-shared-slice-read-result-4
+shared-slice-read-result-4 c = search needs
+
+-- src/lib.rt:143:80
+cast-result-4 : tie.Need-cast-result-4
+cast-result-4 c = ?
+
+-- src/lib.rt:143:79
+mul-result-3 : tie.Need-mul-result-3
+mul-result-3 c = ?
+
+-- src/lib.rt:143:5
+add-result-6 : tie.Need-add-result-6
+add-result-6 c = ?
+
+-- src/lib.rt:139:1
+returns : tie.Need-returns
+returns c = ?
+
+pub four-spec : {M : Type 1} → statement M
+four-spec =
+    tie.close
+    (tie.spec
+    shared-slice-read-result
+    cast-result
+    add-result
+    shared-slice-read-result-2
+    cast-result-2
+    mul-result
+    add-result-2
+    add-result-3
+    shared-slice-read-result-3
+    cast-result-3
+    mul-result-2
+    add-result-4
+    add-result-5
+    shared-slice-read-result-4
+    cast-result-4
+    mul-result-3
+    add-result-6
+    returns)
