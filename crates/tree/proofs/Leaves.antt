@@ -5,16 +5,18 @@ use native.Mathlib.Numerals.{add-one}
 use mathlib.Core.Path.{_≡_, refl, sym, ap, ap₂, subst, _∙_}
 use mathlib.Core.List.{List, [], _∷_}
 use mathlib.Core.Bool.{Bool, true, false, cond}
-use lib.Dec.{eqb, eqb·suc-suc}
+use lib.Dec.{eqb, ltb, eqb·suc-suc}
 use lib.ListN.{length, getD, take, drop, length-take, length-drop}
 use lib.Seq.{drop-cons, getD-take, getD-drop}
-use borrow.Author.Tests.{eq-eqb, ne-eqb}
+use borrow.Author.Tests.{eq-eqb, ne-eqb, lt-ltb, le-ltb}
 use Rattle.fields.specs.Number.{value}
 use Rattle.text.specs.Utf8.{isScalar}
 use Rattle.text.specs.Valid.{validPrefix, passing}
 use Rattle.text.proofs.Longest.{prefix-cons}
 use Rattle.tree.specs.Every.{at}
+use Rattle.tree.specs.Table.{classes}
 use Rattle.tree.specs.Tree.{operatorOf}
+use Rattle.tree.proofs.Rows.{same, same-eq}
 use Rattle.tree.specs.Leaf.{leafOk, text, dollar, both, isOperator}
 
 -- the bytes from p to e
@@ -108,3 +110,60 @@ module _ (b : List ℕ) (p e s : ℕ) (k : e ≤ length b) where
 
     pub scalar-no : s ≡ 205 → (e - p ≡ 4 → ⊥) → false ≡ leafOk s (part b p e)
     scalar-no q l = both-no (eqb (length (part b p e)) 4) (isScalar (value (part b p e))) (ne-eqb _ _ (λ z. l (sym (part-length b p e h k) ∙ z))) ∙ leaf-scalar s (part b p e) q
+
+-- ---- operators: the code's tests, compared with the list at each byte
+
+ranges : ℕ → Bool
+ranges k = cond (ltb k 0x10) (cond (eqb k 0) false (ltb k 0x08)) (cond (ltb k 0x20) (ltb k 0x15) (cond (ltb k 0x30) (ltb k 0x26) (ltb k 0x35)))
+
+alike : ℕ → ℕ → Bool
+alike k x = same (ranges k) (isOperator k)
+
+by-ranges : (k : ℕ) → k < 256 → ranges k ≡ isOperator k
+unfolding classes alike same ranges isOperator operatorOf
+by-ranges k h = same-eq (ranges k) (isOperator k) (at alike classes tt k h)
+
+module _ (k : ℕ) (h : k < 256) where
+  pub op-none : k < 0x10 → k ≡ 0 → false ≡ isOperator k
+  unfolding ranges
+  op-none l z = sym (simp (lt-ltb k 0x10 l, eq-eqb k 0 z)) ∙ by-ranges k h
+
+  pub op-low : k < 0x10 → (k ≡ 0 → ⊥) → ltb k 0x08 ≡ isOperator k
+  unfolding ranges
+  op-low l z = sym (simp (lt-ltb k 0x10 l, ne-eqb k 0 z)) ∙ by-ranges k h
+
+  pub op-math : 0x10 ≤ k → k < 0x20 → ltb k 0x15 ≡ isOperator k
+  unfolding ranges
+  op-math g l = sym (simp (le-ltb k 0x10 g, lt-ltb k 0x20 l)) ∙ by-ranges k h
+
+  pub op-cmp : 0x20 ≤ k → k < 0x30 → ltb k 0x26 ≡ isOperator k
+  unfolding ranges
+  op-cmp g l =
+      let a : 0x10 ≤ k = omega arith in
+      sym (simp (le-ltb k 0x10 a, le-ltb k 0x20 g, lt-ltb k 0x30 l)) ∙ by-ranges k h
+
+  pub op-update : 0x30 ≤ k → ltb k 0x35 ≡ isOperator k
+  unfolding ranges
+  op-update g =
+      let a : 0x10 ≤ k = omega arith in
+      let c : 0x20 ≤ k = omega arith in
+      sym (simp (le-ltb k 0x10 a, le-ltb k 0x20 c, le-ltb k 0x30 g)) ∙ by-ranges k h
+
+-- ---- four bytes
+
+drop-four : (b : List ℕ) (p : ℕ) → p + 4 ≤ length b → drop p b ≡ getD b p 0 ∷ getD b (p + 1) 0 ∷ getD b (p + 2) 0 ∷ getD b (p + 3) 0 ∷ drop (p + 4) b
+drop-four b p h =
+    let e₁ : p + 1 ≡ suc p = omega arith in
+    let e₂ : p + 2 ≡ suc (suc p) = omega arith in
+    let e₃ : p + 3 ≡ suc (suc (suc p)) = omega arith in
+    let e₄ : p + 4 ≡ suc (suc (suc (suc p))) = omega arith in
+    rw (e₁, e₂, e₃, e₄)
+    (drop-cons b p 0 (omega arith) ∙ ap (_∷_ (getD b p 0)) (drop-cons b (suc p) 0 (omega arith)
+    ∙ ap (_∷_ (getD b (suc p) 0)) (drop-cons b (suc (suc p)) 0 (omega arith) ∙ ap (_∷_ (getD b (suc (suc p)) 0)) (drop-cons b (suc (suc (suc p))) 0 (omega arith)))))
+
+pub four-value : (b : List ℕ) (p : ℕ) → p + 4 ≤ length b
+    → getD b p 0 + getD b (p + 1) 0 * 0x100 + getD b (p + 2) 0 * 0x10000 + getD b (p + 3) 0 * 0x1000000 ≡ value (take 4 (drop p b))
+unfolding value
+four-value b p h =
+    let s : (w x y z : ℕ) → w + x * 0x100 + y * 0x10000 + z * 0x1000000 ≡ w + 256 * (x + 256 * (y + 256 * (z + 256 * 0))) = λ w x y z. omega arith in
+    s (getD b p 0) (getD b (p + 1) 0) (getD b (p + 2) 0) (getD b (p + 3) 0) ∙ ap (λ (l : List ℕ). value (take 4 l)) (sym (drop-four b p h))

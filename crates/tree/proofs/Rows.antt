@@ -146,12 +146,12 @@ at-last j c l h = let q : j ≡ 105 = omega arith in last ∙ sym (ap (λ (i : �
 
 -- ---- may the row end: the table says it at each item
 
-same : Bool → Bool → Bool
+unfoldable pub same : Bool → Bool → Bool
 same true y = y
 same false true = false
 same false false = true
 
-same-eq : (x y : Bool) → T (same x y) → x ≡ y
+pub same-eq : (x y : Bool) → T (same x y) → x ≡ y
 unfolding same
 same-eq true true t = refl
 same-eq true false t = absurd t

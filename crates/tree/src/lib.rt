@@ -135,13 +135,19 @@ fn is_text(b: &[u8], p: usize, e: usize) -> bool
 fn is_operator(k: u8) -> bool
     ensures { λ r. ⌜ r ≡ isOperator k ⌝ }
 {
-    match k {
-        0x01..=0x07 => true,
-        0x10..=0x14 => true,
-        0x20..=0x25 => true,
-        0x30..=0x34 => true,
-        _ => false,
+    if k < 0x10 {
+        if k == 0 {
+            return false;
+        }
+        return k < 0x08;
     }
+    if k < 0x20 {
+        return k < 0x15;
+    }
+    if k < 0x30 {
+        return k < 0x26;
+    }
+    k < 0x35
 }
 
 // The number in the four bytes at p.

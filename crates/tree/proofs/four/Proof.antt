@@ -1,3 +1,6 @@
+use native.Mathlib.Omega.{arith}
+use Prim.Native.Nat.{_+_}
+use Rattle.tree.proofs.Leaves.{four-value}
 use borrow.Author.Needs.{needs}
 use Rattle.tree.proofs.four.Statement.{statement}
 use Rattle.tree.proofs.four.Tie as tie
@@ -10,7 +13,7 @@ shared-slice-read-result c = search needs
 
 -- src/lib.rt:143:6
 cast-result : tie.Need-cast-result
-cast-result c = ?
+cast-result c = omega (arith, c .shared-slice-known .given (c .before .args .p))
 
 -- src/lib.rt:143:24
 add-result : tie.Need-add-result
@@ -22,15 +25,15 @@ shared-slice-read-result-2 c = search needs
 
 -- src/lib.rt:143:22
 cast-result-2 : tie.Need-cast-result-2
-cast-result-2 c = ?
+cast-result-2 c = omega (arith, c .shared-slice-known2 .given (c .before .before .args .p + 1), c .before .shared-slice-known .given (c .before .before .args .p))
 
 -- src/lib.rt:143:21
 mul-result : tie.Need-mul-result
-mul-result c = ?
+mul-result c = omega (arith, c .shared-slice-known2 .given (c .before .before .args .p + 1), c .before .shared-slice-known .given (c .before .before .args .p))
 
 -- src/lib.rt:143:5
 add-result-2 : tie.Need-add-result-2
-add-result-2 c = ?
+add-result-2 c = omega (arith, c .shared-slice-known2 .given (c .before .before .args .p + 1), c .before .shared-slice-known .given (c .before .before .args .p))
 
 -- src/lib.rt:143:52
 add-result-3 : tie.Need-add-result-3
@@ -42,15 +45,15 @@ shared-slice-read-result-3 c = search needs
 
 -- src/lib.rt:143:50
 cast-result-3 : tie.Need-cast-result-3
-cast-result-3 c = ?
+cast-result-3 c = omega (arith, c .shared-slice-known3 .given (c .before .before .before .args .p + 2), c .before .shared-slice-known2 .given (c .before .before .before .args .p + 1), c .before .before .shared-slice-known .given (c .before .before .before .args .p))
 
 -- src/lib.rt:143:49
 mul-result-2 : tie.Need-mul-result-2
-mul-result-2 c = ?
+mul-result-2 c = omega (arith, c .shared-slice-known3 .given (c .before .before .before .args .p + 2), c .before .shared-slice-known2 .given (c .before .before .before .args .p + 1), c .before .before .shared-slice-known .given (c .before .before .before .args .p))
 
 -- src/lib.rt:143:5
 add-result-4 : tie.Need-add-result-4
-add-result-4 c = ?
+add-result-4 c = omega (arith, c .shared-slice-known3 .given (c .before .before .before .args .p + 2), c .before .shared-slice-known2 .given (c .before .before .before .args .p + 1), c .before .before .shared-slice-known .given (c .before .before .before .args .p))
 
 -- src/lib.rt:143:82
 add-result-5 : tie.Need-add-result-5
@@ -62,19 +65,19 @@ shared-slice-read-result-4 c = search needs
 
 -- src/lib.rt:143:80
 cast-result-4 : tie.Need-cast-result-4
-cast-result-4 c = ?
+cast-result-4 c = omega (arith, c .shared-slice-known4 .given (c .before .before .before .before .args .p + 3), c .before .shared-slice-known3 .given (c .before .before .before .before .args .p + 2), c .before .before .shared-slice-known2 .given (c .before .before .before .before .args .p + 1), c .before .before .before .shared-slice-known .given (c .before .before .before .before .args .p))
 
 -- src/lib.rt:143:79
 mul-result-3 : tie.Need-mul-result-3
-mul-result-3 c = ?
+mul-result-3 c = omega (arith, c .shared-slice-known4 .given (c .before .before .before .before .args .p + 3), c .before .shared-slice-known3 .given (c .before .before .before .before .args .p + 2), c .before .before .shared-slice-known2 .given (c .before .before .before .before .args .p + 1), c .before .before .before .shared-slice-known .given (c .before .before .before .before .args .p))
 
 -- src/lib.rt:143:5
 add-result-6 : tie.Need-add-result-6
-add-result-6 c = ?
+add-result-6 c = omega (arith, c .shared-slice-known4 .given (c .before .before .before .before .args .p + 3), c .before .shared-slice-known3 .given (c .before .before .before .before .args .p + 2), c .before .before .shared-slice-known2 .given (c .before .before .before .before .args .p + 1), c .before .before .before .shared-slice-known .given (c .before .before .before .before .args .p))
 
 -- src/lib.rt:139:1
 returns : tie.Need-returns
-returns c = ?
+returns c = let a = c .before .before .before .before .args in four-value (a .b .now) (a .p) (c .before .before .before .before .pre)
 
 pub four-spec : {M : Type 1} → statement M
 four-spec =

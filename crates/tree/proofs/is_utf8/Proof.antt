@@ -1,3 +1,4 @@
+use Rattle.tree.proofs.Leaves.{text-whole}
 use borrow.Author.Needs.{needs}
 use Rattle.tree.proofs.is_utf8.Statement.{statement}
 use Rattle.tree.proofs.is_utf8.Tie as tie
@@ -27,7 +28,7 @@ sub-result c = search needs
 
 -- src/lib.rt:100:1
 returns : tie.Need-returns
-returns c = ?
+returns c = let a = c .before .before .before .args in text-whole (a .b .now) (a .p) (a .e) _ (c .before .before .before .pre .0) (c .before .before .before .pre .1) (c .prefix .ensures)
 
 pub is-utf8-spec : {M : Type 1} → statement M
 is-utf8-spec =
