@@ -103,10 +103,9 @@ module _ (b : List ℕ) (p e s : ℕ) (k : e ≤ length b) where
     pub operator-no : s ≡ 204 → (e - p ≡ 1 → ⊥) → false ≡ leafOk s (part b p e)
     operator-no q l = both-no (eqb (length (part b p e)) 1) (isOperator (getD (part b p e) 0 0)) (ne-eqb _ _ (λ z. l (sym (part-length b p e h k) ∙ z))) ∙ leaf-operator s (part b p e) q
 
-    pub scalar-yes : (r : Bool) (v : ℕ) → s ≡ 205 → e - p ≡ 4 → v ≡ value (part b p (p + 4)) → r ≡ isScalar v → r ≡ leafOk s (part b p e)
+    pub scalar-yes : (r : Bool) (v : ℕ) → s ≡ 205 → e - p ≡ 4 → v ≡ value (take 4 (drop p b)) → r ≡ isScalar v → r ≡ leafOk s (part b p e)
     scalar-yes r v q l n o =
-        let z : p + 4 ≡ e = omega arith in
-        o ∙ ap isScalar (n ∙ ap (λ (j : ℕ). value (part b p j)) z) ∙ both-yes (eqb (length (part b p e)) 4) (isScalar (value (part b p e))) (eq-eqb _ _ (part-length b p e h k ∙ l)) ∙ leaf-scalar s (part b p e) q
+        o ∙ ap isScalar (n ∙ ap (λ (j : ℕ). value (take j (drop p b))) (sym l)) ∙ both-yes (eqb (length (part b p e)) 4) (isScalar (value (part b p e))) (eq-eqb _ _ (part-length b p e h k ∙ l)) ∙ leaf-scalar s (part b p e) q
 
     pub scalar-no : s ≡ 205 → (e - p ≡ 4 → ⊥) → false ≡ leafOk s (part b p e)
     scalar-no q l = both-no (eqb (length (part b p e)) 4) (isScalar (value (part b p e))) (ne-eqb _ _ (λ z. l (sym (part-length b p e h k) ∙ z))) ∙ leaf-scalar s (part b p e) q
