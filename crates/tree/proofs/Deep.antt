@@ -18,7 +18,8 @@ use Rattle.tree.specs.Nest.{counts, mark, pop, pushed, Shallow, stackOf}
 use Rattle.tree.specs.Nest as nest
 use Rattle.tree.specs.Match.{not-both}
 use Rattle.tree.specs.Wf.{Wf, Decided, tree-of, wf-of}
-use Rattle.tree.specs.Verdict.{Says, fine, long, wrong, deep, nested, nesting, defining, walk-of, of-walk}
+use Rattle.tree.specs.Numbers.{numbered}
+use Rattle.tree.specs.Verdict.{Encodes, Says, fine, wrong, deep, nested, nesting, defining, limits, walk-of, of-walk}
 
 stack-pred : (a : List ℕ) (i : ℕ) → 0 < i → stackOf a i ≡ getD a (i - 1) 0 ∷ stackOf a (i - 1)
 unfolding stackOf
@@ -138,3 +139,36 @@ next-more b p false = omega arith
 
 pub next-lt : (b : List ℕ) (p r : ℕ) → r ≡ nextOf (isLeaf (getD b p 0)) b p → p < r
 next-lt b p r q = subst (λ (j : ℕ). p < j) (sym q) (next-more b p (isLeaf (getD b p 0)))
+
+-- ---- what a tree comes to
+
+pub too-deep : (b : List ℕ) (t : Tree) → At b t → (Shallow b 0 512 [] 0 → ⊥) → 4 ≡ limits t
+unfolding limits
+too-deep b t h f = simp (lt-leb (nesting t) 512 (above (nesting t) 512 (λ m. f (walk-of b 0 512 t h m))))
+
+pub too-nested : (b : List ℕ) (t : Tree) → At b t → Shallow b 0 512 [] 0 → (Shallow b 0x8C 64 [] 0 → ⊥) → 5 ≡ limits t
+unfolding limits
+too-nested b t h s f = simp (le-leb (nesting t) 512 (of-walk b 0 512 t h s), lt-leb (defining t) 64 (above (defining t) 64 (λ m. f (walk-of b 0x8C 64 t h m))))
+
+pub within-limits : (b : List ℕ) (t : Tree) → At b t → Shallow b 0 512 [] 0 → Shallow b 0x8C 64 [] 0 → 0 ≡ limits t
+unfolding limits
+within-limits b t h s f = simp (le-leb (nesting t) 512 (of-walk b 0 512 t h s), le-leb (defining t) 64 (of-walk b 0x8C 64 t h f))
+
+-- ---- the verdict
+
+pub says-wrong : (b : List ℕ) → length b ≤ 32768 → (Wf b → ⊥) → Says b 3
+says-wrong b l f = wrong l (λ t h. f (wf-of b t (h .at)))
+
+pub says-unnumbered : (b : List ℕ) → length b ≤ 32768 → ((t : Tree) → At b t → false ≡ numbered t) → Says b 3
+says-unnumbered b l f = wrong l (λ t h. not-both (numbered t) (h .numbers) (sym (f t (h .at))))
+
+says-limits : (b : List ℕ) → length b ≤ 32768 → (t : Tree) → Encodes b t → (x : Bool) → leb (nesting t) 512 ≡ x → (y : Bool) → leb (defining t) 64 ≡ y → Says b (cond x (cond y 0 5) 4)
+says-limits b l t e true p true q = fine l t e (leb-true (nesting t) 512 p) (leb-true (defining t) 64 q)
+says-limits b l t e true p false q = nested l t e (leb-true (nesting t) 512 p) (leb-false (defining t) 64 q)
+says-limits b l t e false p y q = deep l t e (leb-false (nesting t) 512 p)
+
+pub says-tree : (b : List ℕ) (r : ℕ) → length b ≤ 32768 → Wf b → ((t : Tree) → At b t → true ≡ numbered t) → ((t : Tree) → At b t → r ≡ limits t) → Says b r
+unfolding limits
+says-tree b r l w n f =
+    let t = tree-of b w in
+    subst (Says b) (sym (f (t .0) (t .1))) (says-limits b l (t .0) (record { at = t .1; numbers = sym (n (t .0) (t .1)) }) (leb (nesting (t .0)) 512) refl (leb (defining (t .0)) 64) refl)

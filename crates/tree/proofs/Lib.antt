@@ -4,3 +4,5 @@ pub mod Leaves
 pub mod Headers
 pub mod Decides
 pub mod Deep
+pub mod Using
+pub mod Sizes

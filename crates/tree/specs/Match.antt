@@ -14,7 +14,7 @@ pub not-both : {A : Type 0} (x : Bool) → x ≡ true → x ≡ false → A
 not-both x p q = let z : _≡_ {A = Bool} true false = sym p ∙ q in absurd (subst (λ (y : Bool). T y) z tt)
 
 -- no row follows where none can
-dead-fit : (rs : Roses) → fit dead rs ≡ false
+pub dead-fit : (rs : Roses) → fit dead rs ≡ false
 unfolding fit after ends
 dead-fit rnil = refl
 dead-fit (rcons r rs) = dead-fit rs
