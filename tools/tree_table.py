@@ -1,7 +1,7 @@
 #!/usr/bin/env python3
 """The tree form's tables, made from the list below, which is TREE.md's table line by line.
 
-Run from the repository's root, then `rt fmt`. Writes crates/tree/specs/Table.antt and the three tables of
+Run from the repository's root, then `rt fmt`. Writes crates/tree/specs/Table.antt and the table of
 crates/tree/src/table.rt: the tables stand twice, in the definitions and in the code, and the code's proofs show them
 equal. Also writes crates/tree/specs/Steps.antt, the regular clauses that say of each tag which part of a tree its field
 is: there each row stands once more, written out, and the prover compares it with the table. And, in
@@ -106,7 +106,7 @@ def write_spec(classes, shapes, items):
     with open('crates/tree/specs/Table.antt', 'w') as f:
         f.write(f'''-- The tables of the tree form, made by tools/tree_table.py from TREE.md's table. Assumes nothing.
 use Prim.Native.Nat.{{ℕ}}
-use mathlib.Core.List.{{List, [], _∷_}}
+use mathlib.Core.List.{{List, [], _∷_, _++_}}
 
 -- of each byte that is a tag its class, {NONE} for any other. The classes are, from 1 on:
 -- {' '.join(CLASSES)}
@@ -122,14 +122,18 @@ shapes = {listed(shapes)}
 -- terms; and 4 more if the row may end before it. Row 0 is that of the bytes themselves, one tree; the last item, 0, is where no row goes on
 unfoldable pub items : List ℕ
 items = {listed(items)}
+
+-- the three in one, as the code has them
+unfoldable pub table : List ℕ
+table = classes ++ shapes ++ items
 ''')
 
 
 def write_code(classes, shapes, items):
     path = 'crates/tree/src/table.rt'
     text = open(path).read()
-    for name, xs in (('CLASSES', classes), ('SHAPES', shapes), ('ITEMS', items)):
-        text = re.sub(rf'const {name}: \[u8; \d+\] = \[[^\]]*\];', f'const {name}: [u8; {len(xs)}] = [{", ".join(map(str, xs))}];', text)
+    xs = classes + shapes + items
+    text = re.sub(r'const TABLE: \[u8; \d+\] = \[[^\]]*\];', f'const TABLE: [u8; {len(xs)}] = [{", ".join(map(str, xs))}];', text)
     open(path, 'w').write(text)
 
 

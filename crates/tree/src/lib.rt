@@ -8,7 +8,7 @@ ghost use Prim.Native.Nat.{ℕ, _+_, _-_, _*_, _/_, _%_, _≤_, _<_};
 ghost use lib.Dec.{eqb};
 ghost use lib.ListN.{length, getD, take, drop};
 ghost use Rattle.fields.specs.Number.{value};
-ghost use Rattle.tree.specs.Table.{items};
+ghost use Rattle.tree.specs.Table.{table};
 ghost use Rattle.tree.specs.Leaf.{both, class, shape, isLeaf, leafOk, text, isOperator};
 ghost use Rattle.tree.specs.Grammar.{term, rowAt, after, ends};
 ghost use Rattle.tree.specs.Rose.{endOf};
@@ -33,13 +33,13 @@ fn mixes(it: u8, c: u8) -> bool
 }
 
 // What may follow a member of class c in the row of items at i, where items may have to be passed over first.
-fn skip(i: usize, c: u8) -> usize
-    requires { ⌜ (i < 106) × (0 < c) ⌝ }
+fn skip(t: &[u8], i: usize, c: u8) -> usize
+    requires { ⌜ (i < 106) × (0 < c) × (now t ≡ table) ⌝ }
     ensures { λ r. ⌜ (rowAt r ≡ after (rowAt i) c) × (r < 106) ⌝ }
 {
     let mut j = i;
     while j < 105 {
-        let it = table::item(j);
+        let it = table::item(t, j);
         if it / 8 == c {
             return j + 1 - (it % 4 / 2) as usize;
         }
@@ -55,23 +55,23 @@ fn skip(i: usize, c: u8) -> usize
 }
 
 // The same: most often the first item takes the member.
-fn advance(i: usize, c: u8) -> usize
-    requires { ⌜ (i < 106) × (0 < c) ⌝ }
+fn advance(t: &[u8], i: usize, c: u8) -> usize
+    requires { ⌜ (i < 106) × (0 < c) × (now t ≡ table) ⌝ }
     ensures { λ r. ⌜ (rowAt r ≡ after (rowAt i) c) × (r < 106) ⌝ }
 {
-    let it = table::item(i);
+    let it = table::item(t, i);
     if it / 8 == c {
         return i + 1 - (it % 4 / 2) as usize;
     }
-    skip(i, c)
+    skip(t, i, c)
 }
 
 // May the row of items at i end?
-fn may_end(i: usize) -> bool
-    requires { ⌜ i < 106 ⌝ }
+fn may_end(t: &[u8], i: usize) -> bool
+    requires { ⌜ (i < 106) × (now t ≡ table) ⌝ }
     ensures { λ r. ⌜ r ≡ ends (rowAt i) ⌝ }
 {
-    table::item(i) / 4 % 2 == 1
+    table::item(t, i) / 4 % 2 == 1
 }
 
 // Where the field at p ends.
@@ -83,8 +83,8 @@ fn end_of(b: &[u8], p: usize) -> usize
 }
 
 // Do the fields from p on fill p to e, in the classes of the items at s?
-fn row(b: &[u8], p: usize, e: usize, s: usize) -> bool
-    requires { ⌜ (p ≤ e) × (e ≤ length (now b)) × (length (now b) ≤ 32768) × (s < 106) ⌝ }
+fn row(t: &[u8], b: &[u8], p: usize, e: usize, s: usize) -> bool
+    requires { ⌜ (p ≤ e) × (e ≤ length (now b)) × (length (now b) ≤ 32768) × (s < 106) × (now t ≡ table) ⌝ }
     ensures { λ r. ⌜ Decided r (Local (now (b .entry)) e (rowAt s) p) ⌝ }
 {
     let mut q = p;
@@ -97,10 +97,10 @@ fn row(b: &[u8], p: usize, e: usize, s: usize) -> bool
         if n > e {
             return false;
         }
-        i = advance(i, table::class(b[q]));
+        i = advance(t, i, table::class(t, b[q]));
         q = n;
     }
-    may_end(i)
+    may_end(t, i)
 }
 
 // ---- leaves
@@ -197,12 +197,12 @@ fn leaf_ok(b: &[u8], p: usize, e: usize, s: usize) -> bool
 // ---- all headers
 
 // Are the bytes those of a tree, its module numbers aside?
-fn formed(b: &[u8]) -> bool
-    requires { ⌜ length (now b) ≤ 32768 ⌝ }
+fn formed(t: &[u8], b: &[u8]) -> bool
+    requires { ⌜ (length (now b) ≤ 32768) × (now t ≡ table) ⌝ }
     ensures { λ r. ⌜ Decided r (Wf (now (b .entry))) ⌝ }
 {
     let n = b.len();
-    if row(b, 0, n, 0) {
+    if row(t, b, 0, n, 0) {
         let mut p = 0;
         while p < n {
             if n - p < 3 {
@@ -212,7 +212,7 @@ fn formed(b: &[u8]) -> bool
             if e > n {
                 return false;
             }
-            let s = table::shape(b[p]);
+            let s = table::shape(t, b[p]);
             if s >= 200 {
                 if leaf_ok(b, p + 3, e, s) {
                     p = e;
@@ -220,7 +220,7 @@ fn formed(b: &[u8]) -> bool
                     return false;
                 }
             } else {
-                if row(b, p + 3, e, s) {
+                if row(t, b, p + 3, e, s) {
                     p += 3;
                 } else {
                     return false;
@@ -341,19 +341,19 @@ fn keep(ends: &mut [u16], d: usize, e: usize, on: bool) -> usize
 }
 
 // The header after the one at p, which ends at e.
-fn next(b: &[u8], p: usize, e: usize) -> usize
-    requires { ⌜ (p + 3 ≤ length (now b)) × (e ≡ endOf (now b) p) ⌝ }
+fn next(t: &[u8], b: &[u8], p: usize, e: usize) -> usize
+    requires { ⌜ (p + 3 ≤ length (now b)) × (e ≡ endOf (now b) p) × (now t ≡ table) ⌝ }
     ensures { λ r. ⌜ r ≡ nextOf (isLeaf (getD (now (b .entry)) p 0)) (now (b .entry)) p ⌝ }
 {
-    if table::shape(b[p]) >= 200 {
+    if table::shape(t, b[p]) >= 200 {
         return e;
     }
     p + 3
 }
 
 // Are at most limit fields that count open at once?
-fn shallow(b: &[u8], only: u8, limit: usize, ends: &mut [u16]) -> bool
-    requires { ⌜ (length (now b) ≤ 32768) × Wf (now b) × (limit ≤ length (now ends)) ⌝ }
+fn shallow(t: &[u8], b: &[u8], only: u8, limit: usize, ends: &mut [u16]) -> bool
+    requires { ⌜ (length (now b) ≤ 32768) × Wf (now b) × (limit ≤ length (now ends)) × (now t ≡ table) ⌝ }
     ensures { λ r. ⌜ Decided r (Shallow (now (b .entry)) only limit [] 0) ⌝ }
 {
     let mut p = 0;
@@ -366,47 +366,60 @@ fn shallow(b: &[u8], only: u8, limit: usize, ends: &mut [u16]) -> bool
             return false;
         }
         d = keep(ends, d1, e, on);
-        p = next(b, p, e);
+        p = next(t, b, p, e);
     }
     true
 }
 
 // Are at most 512 fields open at once? Each has three bytes of its own.
-fn fields_ok(b: &[u8]) -> bool
-    requires { ⌜ (length (now b) ≤ 32768) × Wf (now b) ⌝ }
+fn fields_ok(t: &[u8], b: &[u8]) -> bool
+    requires { ⌜ (length (now b) ≤ 32768) × Wf (now b) × (now t ≡ table) ⌝ }
     ensures { λ r. ⌜ Decided r (Shallow (now (b .entry)) 0 512 [] 0) ⌝ }
 {
     if b.len() < 1539 {
         return true;
     }
     let mut ends = [0u16; 512];
-    shallow(b, 0, 512, &mut ends)
+    shallow(t, b, 0, 512, &mut ends)
 }
 
 // Are at most 64 definitions open at once? Each has a member that is no definition.
-fn definitions_ok(b: &[u8]) -> bool
-    requires { ⌜ (length (now b) ≤ 32768) × Wf (now b) ⌝ }
+fn definitions_ok(t: &[u8], b: &[u8]) -> bool
+    requires { ⌜ (length (now b) ≤ 32768) × Wf (now b) × (now t ≡ table) ⌝ }
     ensures { λ r. ⌜ Decided r (Shallow (now (b .entry)) 0x8C 64 [] 0) ⌝ }
 {
     if b.len() < 390 {
         return true;
     }
     let mut ends = [0u16; 64];
-    shallow(b, 0x8C, 64, &mut ends)
+    shallow(t, b, 0x8C, 64, &mut ends)
 }
 
 // What a well-formed tree comes to: 4 nested too deep, 5 definitions nested too deep, else 0.
-fn nested(b: &[u8]) -> u8
-    requires { ⌜ (length (now b) ≤ 32768) × Wf (now b) ⌝ }
+fn nested(t: &[u8], b: &[u8]) -> u8
+    requires { ⌜ (length (now b) ≤ 32768) × Wf (now b) × (now t ≡ table) ⌝ }
     ensures { λ r. ⌜ ((t : Tree) → At (now (b .entry)) t → r ≡ limits t) ⌝ }
 {
-    if fields_ok(b) {
-        if definitions_ok(b) {
+    if fields_ok(t, b) {
+        if definitions_ok(t, b) {
             return 0;
         }
         return 5;
     }
     4
+}
+
+// The same of any bytes that are not too long.
+fn judged(t: &[u8], b: &[u8]) -> u8
+    requires { ⌜ (length (now b) ≤ 32768) × (now t ≡ table) ⌝ }
+    ensures { λ r. ⌜ Says (now (b .entry)) r ⌝ }
+{
+    if formed(t, b) {
+        if numbered(b) {
+            return nested(t, b);
+        }
+    }
+    3
 }
 
 // What is wrong with the tree bytes: 0 nothing, 2 too long, 3 not well formed, 4 nested too deep, 5 definitions nested too deep.
@@ -416,10 +429,6 @@ pub fn verdict(b: &[u8]) -> u8
     if b.len() > 32768 {
         return 2;
     }
-    if formed(b) {
-        if numbered(b) {
-            return nested(b);
-        }
-    }
-    3
+    let t = table::TABLE;
+    judged(&t, b)
 }

@@ -1,11 +1,12 @@
-// The tables of the tree form and their readers. tools/tree_table.py writes the three tables, here and in specs/Table.antt.
+// The table of the tree form and its readers. A constant array is built where it is used, so one function has it and lends it to the others.
+// tools/tree_table.py writes it, here and in specs/Table.antt: of each byte its class, of each byte its content, the rows of items.
 ghost use mathlib.Core.Path.{_≡_};
 ghost use Prim.Native.Nat.{_<_};
 ghost use lib.ListN.{getD};
-ghost use Rattle.tree.specs.Table.{items};
+ghost use Rattle.tree.specs.Table.{items, table};
 ghost use Rattle.tree.specs.Leaf.{class, shape};
 
-const CLASSES: [u8; 256] = [
+pub const TABLE: [u8; 618] = [
     31,
     31,
     31,
@@ -262,9 +263,6 @@ const CLASSES: [u8; 256] = [
     31,
     31,
     31,
-];
-
-const SHAPES: [u8; 256] = [
     255,
     255,
     255,
@@ -521,9 +519,6 @@ const SHAPES: [u8; 256] = [
     255,
     255,
     255,
-];
-
-const ITEMS: [u8; 106] = [
     8,
     4,
     16,
@@ -633,23 +628,25 @@ const ITEMS: [u8; 106] = [
 ];
 
 // The class of a tag.
-pub fn class(k: u8) -> u8
+pub fn class(t: &[u8], k: u8) -> u8
+    requires { ⌜ now t ≡ table ⌝ }
     ensures { λ r. ⌜ (r ≡ class k) × (0 < r) ⌝ }
 {
-    CLASSES[k as usize]
+    t[k as usize]
 }
 
 // The content of a tag: where its row of items starts, or from 200 on what leaf it is.
-pub fn shape(k: u8) -> usize
+pub fn shape(t: &[u8], k: u8) -> usize
+    requires { ⌜ now t ≡ table ⌝ }
     ensures { λ r. ⌜ (r ≡ shape k) × (r < 200 → r < 106) ⌝ }
 {
-    SHAPES[k as usize] as usize
+    t[256 + (k as usize)] as usize
 }
 
 // An item of the rows.
-pub fn item(i: usize) -> u8
-    requires { ⌜ i < 106 ⌝ }
+pub fn item(t: &[u8], i: usize) -> u8
+    requires { ⌜ (i < 106) × (now t ≡ table) ⌝ }
     ensures { λ r. ⌜ r ≡ getD items i 0 ⌝ }
 {
-    ITEMS[i]
+    t[512 + i]
 }

@@ -26,7 +26,7 @@ sub-result c = search needs
 
 -- src/lib.rt:64:9
 returns : tie.Need-returns
-returns c = at-taken _ _ (c .before .before .pre .0) (c .before .item .ensures) _ (c .if1 .taken) (c .before .before .pre .1) _ refl
+returns c = at-taken _ _ (c .before .before .before .pre .0) (c .before .item .ensures) _ (c .if1 .taken) (c .before .before .before .pre .1) _ refl
 
 -- src/lib.rt:66:5
 skip-requires : tie.Need-skip-requires

@@ -9,7 +9,7 @@ use Rattle.tree.proofs.shallow.Reads as shallow-reads
 
 -- src/lib.rt:386:9
 returns : tie.Need-returns
-returns c = few-definitions _ (c .before .before .pre .1) (omega (arith, c .if1 .taken))
+returns c = few-definitions _ (c .before .before .before .pre .1) (omega (arith, c .if1 .taken))
 
 -- src/lib.rt:389:26
 slice-aggregate-shallow : tie.Need-slice-aggregate-shallow
@@ -17,7 +17,7 @@ slice-aggregate-shallow c = search needs
 
 -- src/lib.rt:389:5
 shallow-requires : tie.Need-shallow-requires
-shallow-requires c κs = (search needs, c .before .before .before .pre .1, search needs)
+shallow-requires c κs = (search needs, c .before .before .before .before .pre .1, search needs, search needs)
 
 -- src/lib.rt:381:1
 returns-2 : tie.Need-returns-2

@@ -15,10 +15,10 @@ use Rattle.tree.proofs.row.Reads as row-reads
 use Rattle.tree.proofs.table.shape.Reads as shape-reads
 
 abbrev Inv-loop : tie.InvT-loop
-Inv-loop b n p₀ p = Going b p
+Inv-loop t b n p₀ p = Going b p
 
 abbrev μ-loop : tie.MeasureT-loop
-μ-loop b n p₀ p = length b - p
+μ-loop t b n p₀ p = length b - p
 
 -- src/lib.rt:188:8
 row-requires : tie.Need-row-requires Inv-loop μ-loop
@@ -78,7 +78,7 @@ add-row c = search needs
 
 -- src/lib.rt:206:20
 row-requires-2 : tie.Need-row-requires-2 Inv-loop μ-loop
-row-requires-2 c κs = (search needs, search needs, search needs, c .before .shape .ensures .1 (omega (arith, c .if4 .left)))
+row-requires-2 c κs = (search needs, search needs, search needs, c .before .shape .ensures .1 (omega (arith, c .if4 .left)), search needs)
 
 -- src/lib.rt:207:25
 add-p : tie.Need-add-p Inv-loop μ-loop

@@ -12,7 +12,7 @@ item-requires c κs = search needs
 
 -- src/lib.rt:61:1
 returns : tie.Need-returns
-returns c = told-end _ _ (c .before .pre) (c .item .ensures)
+returns c = told-end _ _ (c .before .before .pre .0) (c .item .ensures)
 
 pub may-end-spec : {M : Type 1} → statement M
 may-end-spec = tie.close (tie.spec item-requires returns)

@@ -17,7 +17,7 @@ shape-requires c κs = search needs
 
 -- src/lib.rt:331:9
 returns : tie.Need-returns
-returns c = let a = c .before .before .before .before .args in next-leaf (a .b .now) (a .p) (a .e) _ (c .before .before .before .before .pre .1) (c .before .shape .ensures .0) (omega (arith, c .if1 .taken))
+returns c = let a = c .before .before .before .before .before .args in next-leaf (a .b .now) (a .p) (a .e) _ (c .before .before .before .before .before .pre .1) (c .before .shape .ensures .0) (omega (arith, c .if1 .taken))
 
 -- src/lib.rt:333:5
 add-result : tie.Need-add-result
@@ -25,7 +25,7 @@ add-result c = search needs
 
 -- src/lib.rt:326:1
 returns-2 : tie.Need-returns-2
-returns-2 c = let a = c .before .before .before .before .args in next-row (a .b .now) (a .p) _ (c .before .shape .ensures .0) (omega (arith, c .if1 .left))
+returns-2 c = let a = c .before .before .before .before .before .args in next-row (a .b .now) (a .p) _ (c .before .shape .ensures .0) (omega (arith, c .if1 .left))
 
 pub next-spec : {M : Type 1} → statement M
 next-spec =

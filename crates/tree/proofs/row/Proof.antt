@@ -13,10 +13,10 @@ use Rattle.tree.proofs.may_end.Reads as may-end-reads
 use Rattle.tree.proofs.table.class.Reads as class-reads
 
 abbrev Inv-loop : tie.InvT-loop
-Inv-loop b p e s q₀ i₀ q i = Along b e s p i q × (e ≤ length b)
+Inv-loop t b p e s q₀ i₀ q i = Along b e s p i q × (e ≤ length b)
 
 abbrev μ-loop : tie.MeasureT-loop
-μ-loop b p e s q₀ i₀ q i = e - q
+μ-loop t b p e s q₀ i₀ q i = e - q
 
 -- src/lib.rt:92:5
 loop-holds : tie.Need-loop-holds Inv-loop μ-loop

@@ -17,14 +17,14 @@ use Rattle.tree.proofs.mark.Reads as mark-reads
 use Rattle.tree.proofs.next.Reads as next-reads
 
 abbrev Inv-loop : tie.InvT-loop
-Inv-loop b only limit ends₀ p₀ d₀ ends p d = Walking b only limit p d ends × (length ends ≡ length ends₀)
+Inv-loop t b only limit ends₀ p₀ d₀ ends p d = Walking b only limit p d ends × (length ends ≡ length ends₀)
 
 abbrev μ-loop : tie.MeasureT-loop
-μ-loop b only limit ends₀ p₀ d₀ ends p d = length b - p
+μ-loop t b only limit ends₀ p₀ d₀ ends p d = length b - p
 
 -- src/lib.rt:286:5
 loop-holds : tie.Need-loop-holds Inv-loop μ-loop
-loop-holds c = (walk-start _ _ _ _ (c .before .before .pre .1) (c .before .before .pre .2), search needs)
+loop-holds c = (walk-start _ _ _ _ (c .before .before .before .pre .1) (c .before .before .before .pre .2), search needs)
 
 -- src/lib.rt:287:13
 ended-requires : tie.Need-ended-requires Inv-loop μ-loop
@@ -60,15 +60,15 @@ returns c = walk-deep _ _ _ _ _ _ (c .before .before .before .before .before .be
 
 -- src/lib.rt:293:9
 keep-requires : tie.Need-keep-requires Inv-loop μ-loop
-keep-requires c κs = (omega (arith, c .before .if1 .left, c .before .before .mark .ensures .0, (c .before .before .before .before .before .before .before .before .before .loop .inv .0) .room), omega (arith, all-fits _ _ (c .before .before .before .before .before .before .before .before .before .loop .inv .0 .all) (c .before .before .before .before .before .before .before .before .loop-test .taken), c .before .before .before .before .before .end-of .ensures, c .before .before .before .before .before .before .before .before .before .before .before .before .pre .0))
+keep-requires c κs = (omega (arith, c .before .if1 .left, c .before .before .mark .ensures .0, (c .before .before .before .before .before .before .before .before .before .loop .inv .0) .room), omega (arith, all-fits _ _ (c .before .before .before .before .before .before .before .before .before .loop .inv .0 .all) (c .before .before .before .before .before .before .before .before .loop-test .taken), c .before .before .before .before .before .end-of .ensures, c .before .before .before .before .before .before .before .before .before .before .before .before .before .pre .0))
 
 -- src/lib.rt:294:9
 next-requires : tie.Need-next-requires Inv-loop μ-loop
-next-requires c κs = (omega (arith, all-fits _ _ (c .before .before .before .before .before .before .before .before .before .before .before .before .loop .inv .0 .all) (c .before .before .before .before .before .before .before .before .before .before .before .loop-test .taken)), c .before .before .before .before .before .before .before .before .end-of .ensures)
+next-requires c κs = (omega (arith, all-fits _ _ (c .before .before .before .before .before .before .before .before .before .before .before .before .loop .inv .0 .all) (c .before .before .before .before .before .before .before .before .before .before .before .loop-test .taken)), c .before .before .before .before .before .before .before .before .end-of .ensures, search needs)
 
 -- src/lib.rt:286:5
 loop-less : tie.Need-loop-less Inv-loop μ-loop
-loop-less c = omega (arith, next-lt (c .before .before .before .before .before .before .before .before .before .before .before .before .before .before .before .before .args .b .now) (c .before .before .before .before .before .before .before .before .before .before .before .before .before .loop .p) _ (c .next .ensures), c .before .before .before .before .before .before .before .before .before .before .before .before .loop-test .taken)
+loop-less c = omega (arith, next-lt (c .before .before .before .before .before .before .before .before .before .before .before .before .before .before .before .before .before .args .b .now) (c .before .before .before .before .before .before .before .before .before .before .before .before .before .loop .p) _ (c .next .ensures), c .before .before .before .before .before .before .before .before .before .before .before .before .loop-test .taken)
 
 -- src/lib.rt:286:5
 loop-again : tie.Need-loop-again Inv-loop μ-loop

@@ -12,10 +12,10 @@ use Rattle.tree.proofs.mixes.Reads as mixes-reads
 use Rattle.tree.proofs.table.item.Reads as item-reads
 
 abbrev Inv-loop : tie.InvT-loop
-Inv-loop i c j₀ j = (after (rowAt j) c ≡ after (rowAt i) c) × (j < 106)
+Inv-loop t i c j₀ j = (after (rowAt j) c ≡ after (rowAt i) c) × (j < 106)
 
 abbrev μ-loop : tie.MeasureT-loop
-μ-loop i c j₀ j = 106 - j
+μ-loop t i c j₀ j = 106 - j
 
 -- src/lib.rt:41:5
 loop-holds : tie.Need-loop-holds Inv-loop μ-loop
@@ -39,7 +39,7 @@ sub-result c = search needs
 
 -- src/lib.rt:44:13
 returns : tie.Need-returns Inv-loop μ-loop
-returns c = let w = at-taken _ _ (c .before .before .before .loop .inv .1) (c .before .item .ensures) _ (c .if1 .taken) (c .before .before .before .before .pre .1) _ refl in (w .0 ∙ c .before .before .before .loop .inv .0, w .1)
+returns c = let w = at-taken _ _ (c .before .before .before .loop .inv .1) (c .before .item .ensures) _ (c .if1 .taken) (c .before .before .before .before .before .pre .1) _ refl in (w .0 ∙ c .before .before .before .loop .inv .0, w .1)
 
 -- src/lib.rt:47:13
 returns-2 : tie.Need-returns-2 Inv-loop μ-loop

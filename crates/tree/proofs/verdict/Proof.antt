@@ -1,54 +1,30 @@
 use native.Mathlib.Omega.{arith}
-use mathlib.Core.Path.{_≡_, _∙_, sym}
+use mathlib.Core.Path.{refl}
+use Rattle.tree.specs.Table.{classes, shapes, items, table}
 use Rattle.tree.specs.Verdict.{long}
-use Rattle.tree.specs.Wf.{tree-of}
-use Rattle.tree.proofs.Deep.{says-wrong, says-unnumbered, says-tree}
-use Rattle.tree.proofs.Decides.{said, denied}
 use borrow.Author.Needs.{needs}
 use Rattle.tree.proofs.verdict.Statement.{statement}
 use Rattle.tree.proofs.verdict.Tie as tie
 use Rattle.tree.proofs.verdict.Reads as reads
 use Rattle.tree.proofs.verdict.Lts as lts
-use Rattle.tree.proofs.formed.Reads as formed-reads
-use Rattle.tree.proofs.nested.Reads as nested-reads
-use Rattle.tree.proofs.numbered.Reads as numbered-reads
+use Rattle.tree.proofs.judged.Reads as judged-reads
 
--- src/lib.rt:417:9
+-- src/lib.rt:430:9
 returns : tie.Need-returns
 returns c = long (omega (arith, c .if1 .taken))
 
--- src/lib.rt:419:8
-formed-requires : tie.Need-formed-requires
-formed-requires c κs = search needs
+-- src/lib.rt:433:12
+slice-aggregate-judged : tie.Need-slice-aggregate-judged
+slice-aggregate-judged c = search needs
 
--- src/lib.rt:420:12
-numbered-requires : tie.Need-numbered-requires
-numbered-requires c κs = (search needs, tree-of _ (said _ _ (c .before .formed .ensures) (c .if2 .taken)))
+-- src/lib.rt:433:5
+judged-requires : tie.Need-judged-requires
+unfolding table classes shapes items
+judged-requires c κs = (omega (arith, c .before .if1 .left), refl)
 
--- src/lib.rt:421:13
-nested-requires : tie.Need-nested-requires
-nested-requires c κs = (search needs, said _ _ (c .before .before .before .formed .ensures) (c .before .before .if2 .taken))
-
--- src/lib.rt:421:13
+-- src/lib.rt:426:1
 returns-2 : tie.Need-returns-2
-returns-2 c = says-tree _ _ (omega (arith, c .before .before .before .before .before .if1 .left)) (said _ _ (c .before .before .before .before .formed .ensures) (c .before .before .before .if2 .taken)) (λ t h. sym (c .before .if3 .taken) ∙ c .before .before .numbered .ensures t h) (c .nested .ensures)
-
--- src/lib.rt:413:1
-returns-3 : tie.Need-returns-3
-returns-3 c = says-unnumbered _ (omega (arith, c .before .before .before .before .if1 .left)) (λ t h. sym (c .if3 .left) ∙ c .before .numbered .ensures t h)
-
--- src/lib.rt:413:1
-returns-4 : tie.Need-returns-4
-returns-4 c = says-wrong _ (omega (arith, c .before .before .if1 .left)) (denied _ _ (c .before .formed .ensures) (c .if2 .left))
+returns-2 c = search needs
 
 pub verdict-spec : {M : Type 1} → statement M
-verdict-spec =
-    tie.close
-    (tie.spec
-    returns
-    formed-requires
-    numbered-requires
-    nested-requires
-    returns-2
-    returns-3
-    returns-4)
+verdict-spec = tie.close (tie.spec returns slice-aggregate-judged judged-requires returns-2)
