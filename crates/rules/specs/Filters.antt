@@ -61,7 +61,7 @@ pub data Found : Type 0 where
   nothing : Found
   argument : ℕ → Found
   local ofModule : Filter → Found
-  native : ℕ → List Name → Found
+  ofNative : ℕ → List Name → Found
 
 -- one binding further in
 abbrev pub later : Found → Found
@@ -69,7 +69,7 @@ later nothing = nothing
 later (argument i) = argument (suc i)
 later (local d) = local d
 later (ofModule d) = ofModule d
-later (native i ps) = native i ps
+later (ofNative i ps) = ofNative i ps
 
 abbrev pub fits : Text → ℕ → Filter → Bool
 fits f a d = same f (d .name .text) && eqb a (length (d .params))
@@ -99,7 +99,7 @@ included c f a (k ∷ ks) = orElse (included c f a ks) (inModule c f a k)
 -- "then natives, first one first": i is the number of the first of them
 abbrev pub nativeOf : Text → ℕ → ℕ → List Native → Found
 nativeOf f a i [] = nothing
-nativeOf f a i (v ∷ vs) = cond (same f (v .name .text) && eqb a (length (v .params))) (native i (v .params)) (nativeOf f a (suc i) vs)
+nativeOf f a i (v ∷ vs) = cond (same f (v .name .text) && eqb a (length (v .params))) (ofNative i (v .params)) (nativeOf f a (suc i) vs)
 
 abbrev pub foundIn : Option Filter → Found → Found
 foundIn none b = b
@@ -110,7 +110,7 @@ foundElse nothing b = b
 foundElse (argument i) b = argument i
 foundElse (local d) b = local d
 foundElse (ofModule d) b = ofModule d
-foundElse (native i ps) b = native i ps
+foundElse (ofNative i ps) b = ofNative i ps
 
 -- "innermost local; then included modules, last first, last definition first; then natives, first one first"
 unfoldable pub filterNamed : Top → Text → ℕ → Env → Found

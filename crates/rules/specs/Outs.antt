@@ -10,7 +10,7 @@ use Rattle.tree.specs.Tree.{Name, Term, Mark, noMark, aMark, Operator, oComma, 
 use Rattle.rules.specs.Names.{Text, isVar}
 use Rattle.rules.specs.Table.{Arg, Rec, Node, nId, nInt, nNum, nStr, nPath, nObjSingle, nVar, nCallDef, nNative, nComma, nAssign, nUpdate, nUpdateMath, nUpdateAlt, nLogic, nMath, nCmp, nAlt, nIte, index, Err}
 use Rattle.rules.specs.Tails.{Tail, empty, union, localCall, moduleKind}
-use Rattle.rules.specs.Filters.{Found, nothing, argument, local, ofModule, native, Meant}
+use Rattle.rules.specs.Filters.{Found, nothing, argument, local, ofModule, ofNative, Meant}
 
 -- ---- what a term gives: its own record, the records inserted after it in the order of their numbers, the errors, and the calls that it may return
 
@@ -94,7 +94,7 @@ callOut p k r o x (argument i) = node p (nVar i) (o .more) (o .errs) empty
 callOut p k r o x (local d) =
     let how = localCall (d .level) (d .fun) r in node p (nCallDef (d .number) (binds (d .params) (o .made)) (k - d .count) (how .kind)) (o .more) (o .errs) (how .tail)
 callOut p k r o x (ofModule d) = node p (nCallDef (d .number) (binds (d .params) (o .made)) k (moduleKind (d .level) (d .fun))) (o .more) (o .errs) empty
-callOut p k r o x (native i ps) = node p (nNative i (binds ps (o .made))) (o .more) (o .errs) empty
+callOut p k r o x (ofNative i ps) = node p (nNative i (binds ps (o .made))) (o .more) (o .errs) empty
 
 -- ---- operators
 
@@ -154,7 +154,7 @@ iteOut p n a b o =
 unfoldable pub sumOut : ℕ → ℕ → Out → Option Out → Out
 sumOut p n a none = a
 sumOut p n a (some o) =
-    let k = n + (length (a .more) + length (o .more)) in
+    let k = n + length (a .more) + length (o .more) in
     node p (nMath k 0 (suc k)) (a .more ++ (o .more ++ (a .self ∷ o .self ∷ []))) (a .errs ++ o .errs) empty
 
 -- "none gives empty Str or ObjEmpty"

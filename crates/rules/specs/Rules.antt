@@ -65,7 +65,7 @@ module _ (c : Top) where
   foldOut p f a s x vs [] e n r = fail p (foldError f a) [] []
   foldOut p f a s x vs (g ∷ []) e n r = fail p (foldError f a) [] []
   foldOut p f a s x vs (g ∷ h ∷ gs) e n r =
-      let k = n + (size s + length (x .more)) in
+      let k = n + size s + length (x .more) in
       let i = g e (suc k) empty in
       let m = k + size i in
       let u = h (pushVars vs e) (suc m) empty in
@@ -93,7 +93,7 @@ module _ (c : Top) where
     term (tIfThenElse p q t u bs) e n r =
         let a = term t e (suc n) empty in
         let b = term u e (suc (n + size a)) r in
-        iteOut p n a b (branches bs p e (n + (size a + size b)) r)
+        iteOut p n a b (branches bs p e (n + size a + size b) r)
     term (tVar p x) e n r = varOut p (errorAt c uVar (textPlace p) x) (variable c x e)
     term (tCall p f ts) e n r = called p (f .text) (textPlace (f .place)) (arity ts) (args ts e n) e r
     -- "body after definitions" is a tail place; a Def and its body share one number
@@ -156,7 +156,7 @@ module _ (c : Top) where
     branches (bPair q t u bs) p e n r =
         let a = term t e (suc n) empty in
         let b = term u e (suc (n + size a)) r in
-        iteOut p n a b (branches bs p e (n + (size a + size b)) r)
+        iteOut p n a b (branches bs p e (n + size a + size b) r)
 
     -- ---- definitions
 
@@ -187,19 +187,16 @@ module _ (c : Top) where
     elements psNil i p e n = bare patsNil
     elements (psCons x xs) i p e n =
         let a = pattern x p e (suc n) in
-        let k = leaf p (nInt i) in
-        joined (λ y ys. patsCons n y ys)
-        (record { made = a .made; more = k .self ∷ a .more; errs = a .errs })
-        (elements xs (suc i) p e (suc n + length (a .more)))
+        let o = elements xs (suc i) p e (suc n + length (a .more)) in
+        record { made = patsCons n (a .made) (o .made); more = record { place = p; node = nInt i } ∷ (a .more ++ o .more); errs = a .errs ++ o .errs }
 
     pub keyed : PatEntries → ℕ → Env → ℕ → Made Pats
     keyed pesNil p e n = bare patsNil
     keyed (pesCons q t x xs) p e n =
         let k = term t e (suc n) empty in
         let a = pattern x p e (n + size k) in
-        joined (λ y ys. patsCons n y ys)
-        (record { made = a .made; more = slot k ++ a .more; errs = k .errs ++ a .errs })
-        (keyed xs p e (n + (size k + length (a .more))))
+        let o = keyed xs p e (n + size k + length (a .more)) in
+        record { made = patsCons n (a .made) (o .made); more = slot k ++ (a .more ++ o .more); errs = k .errs ++ (a .errs ++ o .errs) }
 
     pub optPattern : OptPattern → ℕ → Env → ℕ → Made (Option Pat)
     optPattern noPattern p e n = bare none
