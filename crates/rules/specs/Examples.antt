@@ -184,6 +184,27 @@ pub others :
 unfolding compile modules term emptyOut called callOut meant partMeant filterNamed localCall has subset without bit numeral operatorOf
 others = (refl, refl)
 
+-- ---- places: each record has that of its tree field, "a supplied term stands at the term field whose rule inserts it, an array pattern's keys at the BinOp or Fold"
+
+abbrev placesOf : List Rec → List ℕ
+placesOf [] = []
+placesOf (r ∷ rs) = r .place ∷ placesOf rs
+
+abbrev places : Term → List ℕ
+places t = placesOf (compile (program t) .table)
+
+-- the string above, its Str at 10 and `.` at 20; a conditional at 10 with two pairs and no else; `. as [$x] | {$x, (.)}` with the Obj at 30, and a definition
+-- whose body stands at 20, before `.` at 30
+pub record-places :
+    (places (tStr 10 noFormat (sCons (sText (named 0 "a")) (sCons (sTerm (tId 20)) (sCons (sText (named 0 "b")) sNil)))) ≡ 10 ∷ 10 ∷ 20 ∷ 10 ∷ 10 ∷ 10 ∷ 10 ∷ [])
+    × (places (tIfThenElse 10 0 (tId 20) (tId 30) (bPair 0 (tId 40) (tId 50) bNone)) ≡ 10 ∷ 20 ∷ 30 ∷ 40 ∷ 50 ∷ 10 ∷ 10 ∷ [])
+    × (places
+    (tPipe 10 (tId 20) 0 (aPattern (pArr 0 (psCons (pVar 0 (ascii "$x")) psNil))) (tObj 30 (esCons 0 (tVar 40 (ascii "$x")) noTerm (esCons 0 (tId 50) noTerm esNil))))
+    ≡ 10 ∷ 20 ∷ 30 ∷ 30 ∷ 40 ∷ 50 ∷ 30 ∷ 30 ∷ 30 ∷ 30 ∷ 10 ∷ [])
+    × (places (tDef 10 (dsCons (def 15 (named 0 "f") [] (tId 20)) dsNil) (tId 30)) ≡ 30 ∷ 20 ∷ [])
+unfolding compile modules term formatOut sumOut iteOut loneOut varOut variable
+record-places = (refl, refl, refl, refl)
+
 -- numerals: `007`, 2^63-1, one past it, `1.0`, nothing, `-5`
 pub numerals :
     (numeral (ascii "007") ≡ nInt 7)

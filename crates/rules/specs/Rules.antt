@@ -46,7 +46,7 @@ module _ (c : Top) where
   foldError f a = errorAt c (uFilter a) (textPlace (f .place)) (f .text)
 
   -- "`reduce` needs two, `foreach` two or three; any other name or count fails likewise after update, compiling no more.": o is made of what stands up to
-  -- update, the arguments gs stand behind it, and n is the next number
+  -- update, the arguments gs stand behind it, and n is the next number. The projection is a tail place
   unfoldable pub foldEnd : ℕ → Name → ℕ → Made (Folding → Node) → List Waiting → Env → ℕ → Tail → Out
   foldEnd p f a o [] e n r =
       cond (same (f .text) (ascii "reduce")) (node p (o .made reduce) (o .more) (o .errs) empty)
@@ -80,7 +80,8 @@ module _ (c : Top) where
   -- ---- terms
 
   -- `term t e n r`: the term t, where the rows e are in view, n is the next number behind its own, and calls of r may be returned. A member that takes the
-  -- number k is `term _ _ (suc k) _`
+  -- number k is `term _ _ (suc k) _`. "Tail places: right of Pipe and Alt, both sides of Comma, branches and else, `foreach` projection, body after definitions.
+  -- Elsewhere the set is empty.": there a member gets r, elsewhere `empty`
   unfoldable mutual
     pub term : Term → Env → ℕ → Tail → Out
     term (tId p) e n r = leaf p nId
@@ -96,7 +97,7 @@ module _ (c : Top) where
         iteOut p n a b (branches bs p e (n + size a + size b) r)
     term (tVar p x) e n r = varOut p (errorAt c uVar (textPlace p) x) (variable c x e)
     term (tCall p f ts) e n r = called p (f .text) (textPlace (f .place)) (arity ts) (args ts e n) e r
-    -- "body after definitions" is a tail place; a Def and its body share one number
+    -- a Def and its body share one number
     term (tDef p ds t) e n r =
         let d = defs ds e n r in
         let a = term t (d .env) (n + length (d .more)) r in
