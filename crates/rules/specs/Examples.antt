@@ -1,23 +1,22 @@
 -- Worked examples of the rules, computed. Places are made up where a claim does not show them.
-use Prim.Native.Nat.{ℕ, suc}
+use Prim.Native.Nat.{ℕ}
 use Prim.Native.String.{String}
 use mathlib.Core.Path.{_≡_, refl}
 use mathlib.Core.Bool.{true, false}
-use mathlib.Core.Option.{Option, none, some}
-use mathlib.Core.List.{List, [], _∷_, _++_, map}
+use mathlib.Core.Option.{none, some}
+use mathlib.Core.List.{List, [], _∷_, _++_}
 use Rattle.fields.specs.Number.{number, value}
 use Rattle.fields.specs.Field.{field}
-use Rattle.fields.specs.Outcome.{Outcome, listing}
-use Rattle.text.specs.Utf8.{utf8, encode, isScalar, scalars}
-use Rattle.tree.specs.Tree.{Name, Number, Term, noTerm, aTerm, tsNil, tsCons, bNone, bElse, bPair, dsNil, dsCons, def, pVar, pArr, pObj, noPattern, aPattern, psNil, psCons, pesNil, pesCons, partsNil, partsCons, partIndex, partRange, noBound, aBound, noMark, aMark, sNil, sCons, sText, sChar, sTerm, esNil, esCons, noFormat, aFormat, noGlobals, aGlobals, Uses, Module, Tree, operatorOf, tId, tRecurse, tArr, tNeg, tLabel, tBreak, tIfThenElse, tVar, tCall, tDef, tNum, tTryCatch, tFold, tPipe, tBinOp, tPath, tStr, tObj}
+use Rattle.fields.specs.Outcome.{listing}
+use Rattle.tree.specs.Tree.{Name, Number, Term, noTerm, aTerm, tsNil, tsCons, bNone, bPair, dsNil, dsCons, def, pVar, pArr, pObj, noPattern, aPattern, psNil, psCons, pesNil, pesCons, partsNil, partsCons, partIndex, partRange, aBound, noMark, aMark, sNil, sCons, sText, sTerm, esNil, esCons, noFormat, noGlobals, aGlobals, Uses, Module, Tree, operatorOf, tId, tRecurse, tArr, tLabel, tBreak, tIfThenElse, tVar, tCall, tDef, tNum, tTryCatch, tFold, tPipe, tBinOp, tPath, tStr, tObj}
 use Rattle.rules.specs.Names.{ascii}
-use Rattle.rules.specs.Table.{Kind, inline, throw, catchOne, catchAll, Arg, patVar, patIdx, patsNil, patsCons, reduce, foreach, index, range, Node, nId, nRecurse, nToString, nInt, nNum, nStr, nArr, nObjEmpty, nObjSingle, nVar, nCallDef, nNative, nLabel, nNeg, nPipe, nComma, nAssign, nUpdate, nUpdateMath, nUpdateAlt, nLogic, nMath, nCmp, nAlt, nTryCatch, nIte, nFold, nPath, Rec, uMod, uVar, uLabel, uFilter, Err}
+use Rattle.rules.specs.Table.{Kind, inline, throw, catchOne, catchAll, patVar, patIdx, patsNil, patsCons, reduce, foreach, index, range, Node, nId, nRecurse, nToString, nInt, nNum, nStr, nArr, nObjEmpty, nObjSingle, nVar, nCallDef, nNative, nLabel, nNeg, nPipe, nComma, nAssign, nUpdate, nUpdateMath, nUpdateAlt, nLogic, nMath, nCmp, nAlt, nTryCatch, nIte, nFold, nPath, Rec}
 use Rattle.rules.specs.Tails.{bit, has, without, subset, localCall, moduleKind}
 use Rattle.rules.specs.Filters.{variable, filterNamed, importMeant, partMeant, meant}
 use Rattle.rules.specs.Outs.{varOut, numeral, callOut, iteOut, sumOut, loneOut}
 use Rattle.rules.specs.Rules.{called, emptyOut, formatOut, foldError, foldEnd, foldOut, term}
 use Rattle.rules.specs.Modules.{modules, compile}
-use Rattle.rules.specs.Listing.{termListing, errorListing, listed, compiling, argList, patBytes, optPatBytes, foldBytes, optNumber, stepBytes, stepsBytes}
+use Rattle.rules.specs.Listing.{termListing, errorListing, listed, compiling, patBytes, optPatBytes}
 
 -- ---- trees
 

@@ -8,8 +8,8 @@ use lib.Dec.{eqb}
 use Rattle.fields.specs.Number.{value}
 use Rattle.tree.specs.Tree.{Name, Number, Native, Import, Uses}
 use Rattle.rules.specs.Names.{Text, same, Parted, plain, parted, parting}
-use Rattle.rules.specs.Table.{Undefined, uMod, uVar, uLabel, uFilter, Err}
-use Rattle.rules.specs.Rows.{Filter, Row, var, label, arg, filter, Env, count, findVar}
+use Rattle.rules.specs.Table.{Undefined, uMod, uFilter, Err}
+use Rattle.rules.specs.Rows.{Filter, var, label, arg, filter, Env, count, findVar}
 
 abbrev pub orElse : {A : Type 0} → Option A → Option A → Option A
 orElse none b = b

@@ -1,21 +1,21 @@
 -- Every record that the rules give is fine in the table that holds them: Numbers.antt says what that means. Each form first, then one induction over the tree.
 -- Assumes nothing.
-use mathlib.Core.Path.{_≡_, refl, sym, ap, subst, _∙_}
-use mathlib.Core.Bool.{Bool, true, false, cond, _&&_}
+use mathlib.Core.Path.{_≡_, refl, ap, subst, _∙_}
+use mathlib.Core.Bool.{_&&_}
 use mathlib.Core.Option.{Option, none, some}
 use mathlib.Core.List.{List, [], _∷_, _++_}
-use Prim.Native.Nat.{ℕ, zero, suc, _+_, _-_, _^_, _<_}
+use Prim.Native.Nat.{ℕ, suc, _+_, _-_, _^_}
 use native.Mathlib.Omega.{arith}
-use lib.ListN.{length, length-append, getElem?}
+use lib.ListN.{length, length-append}
 use lib.Dec.{leb}
-use Rattle.tree.specs.Tree.{Name, Term, OptTerm, noTerm, aTerm, Terms, tsNil, tsCons, Branches, bNone, bElse, bPair, Defs, dsNil, dsCons, Def, def, Pattern, pVar, pArr, pObj, OptPattern, noPattern, aPattern, Patterns, psNil, psCons, PatEntries, pesNil, pesCons, Parts, partsNil, partsCons, Part, partIndex, partRange, Bound, noBound, aBound, StrParts, sNil, sCons, StrPart, sText, sChar, sTerm, Entries, esNil, esCons, Format, noFormat, aFormat, Operator, oComma, oAlt, oOr, oAnd, oAssign, oUpdate, oUpdateAlt, oMath, oUpdateMath, oCmp, oNone, operator, textPlace, Module, Tree, tId, tRecurse, tArr, tNeg, tLabel, tBreak, tIfThenElse, tVar, tCall, tDef, tNum, tTryCatch, tFold, tPipe, tBinOp, tPath, tStr, tObj}
-use Rattle.rules.specs.Names.{Text, same, ascii, isVar}
-use Rattle.rules.specs.Table.{Arg, Pat, Pats, Folding, reduce, foreach, Step, Node, nId, nNum, nInt, nStr, nArr, nObjEmpty, nObjSingle, nLabel, nNeg, nPipe, nTryCatch, nFold, nPath, Rec, Err}
+use Rattle.tree.specs.Tree.{Name, Term, OptTerm, noTerm, aTerm, Terms, tsNil, tsCons, Branches, bNone, bElse, bPair, Defs, dsNil, dsCons, Def, def, Pattern, pVar, pArr, pObj, OptPattern, noPattern, aPattern, Patterns, psNil, psCons, PatEntries, pesNil, pesCons, Parts, partsNil, partsCons, Part, partIndex, partRange, Bound, noBound, aBound, StrParts, sNil, sCons, StrPart, sText, sChar, sTerm, Entries, esNil, esCons, Format, noFormat, aFormat, Operator, oComma, oAlt, oOr, oAnd, oAssign, oUpdate, oUpdateAlt, oMath, oUpdateMath, oCmp, oNone, operator, Module, Tree, tId, tRecurse, tArr, tNeg, tLabel, tBreak, tIfThenElse, tVar, tCall, tDef, tNum, tTryCatch, tFold, tPipe, tBinOp, tPath, tStr, tObj}
+use Rattle.rules.specs.Names.{Text, same, ascii}
+use Rattle.rules.specs.Table.{Pat, Pats, Folding, reduce, foreach, Step, Node, nNum, nInt, nStr, nArr, nObjEmpty, nObjSingle, nLabel, nNeg, nPipe, nTryCatch, nPath, Rec, Err}
 use Rattle.rules.specs.Tails.{Tail, empty, bit, union, sibling}
 use Rattle.rules.specs.Rows.{Filter, Env, label, filter, level, filterOf, inside, pushVars, filters, params}
-use Rattle.rules.specs.Filters.{Top, Found, nothing, argument, local, ofModule, ofNative, meant}
+use Rattle.rules.specs.Filters.{Top, Found, nothing, argument, local, ofModule, ofNative}
 use Rattle.rules.specs.Outs.{Out, slot, size, node, leaf, Made, bare, binds, callOut, varOut, areDigits, decimal, numeral, binary, leftAllows, rightAllows, iteOut, sumOut, sumOr, pairOut, loneOut, varName, vars, varsOf, arity}
-use Rattle.rules.specs.Rules.{Waiting, called, emptyOut, formatOut, foldError, foldEnd, foldOut, term, orEmpty, args, waiting, branches, defs, body, pattern, elements, keyed, optPattern, parts, part, bound, strings, string, entries, entry}
+use Rattle.rules.specs.Rules.{Waiting, called, emptyOut, formatOut, foldEnd, foldOut, term, orEmpty, args, waiting, branches, defs, body, pattern, elements, keyed, optPattern, parts, part, bound, strings, string, entries, entry}
 use Rattle.rules.specs.Modules.{topOf, modules, compile}
 use Rattle.rules.specs.Lists.{Every, every-append, either}
 use Rattle.rules.specs.Slices.{Table, Slice, slice-left, slice-right, slice-self, stands-below}

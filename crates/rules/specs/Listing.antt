@@ -10,7 +10,7 @@ use Rattle.fields.specs.Number.{number}
 use Rattle.fields.specs.Field.{field}
 use Rattle.fields.specs.Outcome.{Outcome, listing, refusal, pick}
 use Rattle.tree.specs.Tree.{Tree}
-use Rattle.rules.specs.Table.{Kind, kindNumber, Arg, Pat, patVar, patIdx, Pats, patsNil, patsCons, Folding, reduce, foreach, Step, index, range, Node, nId, nRecurse, nToString, nInt, nNum, nStr, nArr, nObjEmpty, nObjSingle, nVar, nCallDef, nNative, nLabel, nNeg, nPipe, nComma, nAssign, nUpdate, nUpdateMath, nUpdateAlt, nLogic, nMath, nCmp, nAlt, nTryCatch, nIte, nFold, nPath, Rec, Undefined, uMod, uVar, uLabel, uFilter, Err}
+use Rattle.rules.specs.Table.{kindNumber, Arg, Pat, patVar, patIdx, Pats, patsNil, patsCons, Folding, reduce, foreach, Step, index, range, Node, nId, nRecurse, nToString, nInt, nNum, nStr, nArr, nObjEmpty, nObjSingle, nVar, nCallDef, nNative, nLabel, nNeg, nPipe, nComma, nAssign, nUpdate, nUpdateMath, nUpdateAlt, nLogic, nMath, nCmp, nAlt, nTryCatch, nIte, nFold, nPath, Rec, Undefined, uMod, uVar, uLabel, uFilter, Err}
 use Rattle.rules.specs.Modules.{Compiled, compile}
 
 -- "bool .. in one"

@@ -1,6 +1,6 @@
 -- A whole tree: "modules in order (imports, includes, imported variables, definitions) and main, which has the same but a term for its definitions". The
 -- modules are compiled one after the other, then main; the numbers go on throughout. Assumes nothing.
-use Prim.Native.Nat.{ℕ, zero, suc, _+_}
+use Prim.Native.Nat.{ℕ, suc, _+_}
 use mathlib.Core.List.{List, [], _∷_, _++_}
 use lib.ListN.{length}
 use Rattle.tree.specs.Tree.{Name, Uses, Globals, noGlobals, aGlobals, Module, Main, Tree}

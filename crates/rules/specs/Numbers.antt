@@ -1,25 +1,24 @@
 -- What the numbers of a table mean: each number of a member is a term's, below the count of terms, and a called number is a definition's, which takes as many
 -- arguments as the call has, each of its kind. Assumes nothing.
-use mathlib.Core.Path.{_≡_, refl, sym, ap, subst, _∙_}
+use mathlib.Core.Path.{_≡_}
 use mathlib.Core.Bool.{Bool, true, false, cond, _&&_, false≢true}
 use mathlib.Core.Option.{Option, none, some}
-use mathlib.Core.List.{List, [], _∷_, _++_}
-use Prim.Native.Nat.{ℕ, zero, suc, _+_, _<_}
-use native.Mathlib.Omega.{arith}
-use lib.ListN.{length, getD, getElem?}
+use mathlib.Core.List.{List, [], _∷_}
+use Prim.Native.Nat.{ℕ, zero, suc, _<_}
+use lib.ListN.{length, getD}
 use lib.Dec.{eqb}
 use borrow.Author.Tests.{eqb-true}
 use Rattle.fields.specs.Number.{value}
-use Rattle.tree.specs.Tree.{Name, Number, Native, Import, Term, Def, def}
+use Rattle.tree.specs.Tree.{Name, Number, Native, Term, def}
 use Rattle.rules.specs.Names.{Text, same, isVar, Parted, plain, parted, parting}
-use Rattle.rules.specs.Table.{Kind, Arg, Pat, patVar, patIdx, Pats, patsNil, patsCons, Folding, reduce, foreach, Step, index, range, Node, nId, nRecurse, nToString, nInt, nNum, nStr, nArr, nObjEmpty, nObjSingle, nVar, nCallDef, nNative, nLabel, nNeg, nPipe, nComma, nAssign, nUpdate, nUpdateMath, nUpdateAlt, nLogic, nMath, nCmp, nAlt, nTryCatch, nIte, nFold, nPath, Rec, Err}
+use Rattle.rules.specs.Table.{Arg, Pat, patVar, patIdx, Pats, patsNil, patsCons, Folding, reduce, foreach, Step, index, range, Node, nId, nRecurse, nToString, nInt, nNum, nStr, nArr, nObjEmpty, nObjSingle, nVar, nCallDef, nNative, nLabel, nNeg, nPipe, nComma, nAssign, nUpdate, nUpdateMath, nUpdateAlt, nLogic, nMath, nCmp, nAlt, nTryCatch, nIte, nFold, nPath, Rec}
 use Rattle.rules.specs.Tails.{Tail}
-use Rattle.rules.specs.Rows.{Filter, Row, var, label, arg, filter, Env, filters, pushVars, param, params}
+use Rattle.rules.specs.Rows.{Filter, var, label, arg, filter, Env, filters, pushVars, param, params}
 use Rattle.rules.specs.Filters.{Top, Found, nothing, argument, local, ofModule, ofNative, later, fits, find, definition, inModule, included, nativeOf, foundIn, foundElse, filterNamed, importNamed, importMeant, partMeant, meant, orElse}
-use Rattle.rules.specs.Outs.{Out, slot, size, Made, binds, callOut, varOut, iteOut, sumOut, sumOr, pairOut, loneOut}
+use Rattle.rules.specs.Outs.{slot}
 use Rattle.rules.specs.Rules.{body}
-use Rattle.rules.specs.Lists.{Every, every-append, either}
-use Rattle.rules.specs.Slices.{Table, Slice, slice-left, slice-right, stands-below}
+use Rattle.rules.specs.Lists.{Every, either}
+use Rattle.rules.specs.Slices.{Table, Slice}
 
 -- ---- what is said of a table T
 

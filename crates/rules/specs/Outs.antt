@@ -1,6 +1,6 @@
 -- What compiling gives, and how it is put together: the forms that Rules.antt uses. Document 01: "Term numbers follow insertion order: `iterm` reserves its
 -- number before what it contains". Assumes nothing.
-use Prim.Native.Nat.{ℕ, zero, suc, _+_, _-_, _*_, _^_}
+use Prim.Native.Nat.{ℕ, suc, _+_, _-_, _*_, _^_}
 use mathlib.Core.Bool.{Bool, true, false, cond, _&&_}
 use mathlib.Core.Option.{Option, none, some}
 use mathlib.Core.List.{List, [], _∷_, _++_}
@@ -10,7 +10,7 @@ use Rattle.tree.specs.Tree.{Name, Term, Mark, noMark, aMark, Operator, oComma, 
 use Rattle.rules.specs.Names.{Text, isVar}
 use Rattle.rules.specs.Table.{Arg, Rec, Node, nId, nInt, nNum, nStr, nPath, nObjSingle, nVar, nCallDef, nNative, nComma, nAssign, nUpdate, nUpdateMath, nUpdateAlt, nLogic, nMath, nCmp, nAlt, nIte, index, Err}
 use Rattle.rules.specs.Tails.{Tail, empty, union, localCall, moduleKind}
-use Rattle.rules.specs.Filters.{Found, nothing, argument, local, ofModule, ofNative, Meant}
+use Rattle.rules.specs.Filters.{Found, nothing, argument, local, ofModule, ofNative}
 
 -- ---- what a term gives: its own record, the records inserted after it in the order of their numbers, the errors, and the calls that it may return
 

@@ -1,9 +1,9 @@
 -- What a reader signs for: the claims of document 01 on tail sets, numbers and calls, for every tree, with errors or without.
-use mathlib.Core.Path.{_≡_, refl, sym, ap, subst, _∙_}
-use mathlib.Core.Bool.{true, false}
+use mathlib.Core.Path.{_≡_, sym, ap, subst, _∙_}
+use mathlib.Core.Bool.{true}
 use mathlib.Core.Option.{some}
 use mathlib.Core.List.{List, [], _∷_}
-use Prim.Native.Nat.{ℕ, _≤_, _<_, _^_}
+use Prim.Native.Nat.{ℕ, _≤_, _<_}
 use native.Mathlib.Omega.{arith}
 use lib.ListN.{length, getElem?}
 use lib.Count.{ones}
@@ -11,18 +11,19 @@ use borrow.Author.Tests.{lt-ltb, le-ltb}
 use Rattle.fields.specs.Number.{number, value, value-number}
 use Rattle.fields.specs.Outcome.{listing, refusal, pick}
 use Rattle.tree.specs.Tree.{Term, Tree}
-use Rattle.rules.specs.Table.{Kind, Arg, Rec, Node, nCallDef, Err}
-use Rattle.rules.specs.Tails.{Tail, empty, bit, has, subset, Fun, returned, Call, localCall, moduleKind}
+use Rattle.rules.specs.Table.{Kind, Arg, Rec, nCallDef, Err}
+use Rattle.rules.specs.Tails.{Tail, empty, has, subset, Fun, returned, localCall, moduleKind}
 use Rattle.rules.specs.Sets.{has-subset}
 use Rattle.rules.specs.Lists.{Every, every-at}
-use Rattle.rules.specs.Rows.{Env, Filter}
+use Rattle.rules.specs.Rows.{Env}
 use Rattle.rules.specs.Filters.{Top}
 use Rattle.rules.specs.Rules.{term}
 use Rattle.rules.specs.Modules.{compile}
 use Rattle.rules.specs.Listing.{termListing, errorListing, listed, compiling}
-use Rattle.rules.specs.Returns.{returns, Lone, lone-call, one-member, moduleDefs, of-module-defs}
-use Rattle.rules.specs.Numbers.{In, Called, Fine, FineAll}
+use Rattle.rules.specs.Returns.{returns, lone-call, one-member, moduleDefs, of-module-defs}
+use Rattle.rules.specs.Numbers.{In, Called, Fine}
 use Rattle.rules.specs.Fine.{table-fine}
+use Rattle.rules.specs.Count.{inserted, table-count}
 
 -- "a body may return calls of itself and of what its place allows": a term that returns a call of an enclosing definition stands in a place that allows it
 pub returned-is-allowed : (c : Top) (t : Term) (e : Env) (n : ℕ) (r : Tail) → subset (term c t e n r .tail) r ≡ true
@@ -53,23 +54,27 @@ pub calls-are-definitions : (t : Tree) (k d s : ℕ) (as′ : List Arg) (how : K
     → getElem? (compile t .table) k ≡ some (record { place = p; node = nCallDef d as′ s how }) → Called (compile t .table) d as′
 calls-are-definitions t k d s as′ how p e = numbers-are-terms t k (record { place = p; node = nCallDef d as′ s how }) e .2
 
+-- "6: over 4,096 terms inserted, error paths counted": how many are inserted is read off the tree, whatever its names mean
+pub inserted-terms : (t : Tree) → length (compile t .table) ≡ inserted t
+inserted-terms t = table-count t
+
 -- "numbers in two bytes": in a table that is not refused, two bytes hold each of them
-pub numbers-fit : (t : Tree) (k : ℕ) → length (compile t .table) ≤ 4096 → In (compile t .table) k → value (number 2 k) ≡ k
-numbers-fit t k h i = value-number 2 k (omega arith)
+pub numbers-fit : (t : Tree) (k : ℕ) → inserted t ≤ 4096 → In (compile t .table) k → value (number 2 k) ≡ k
+numbers-fit t k h i = value-number 2 k (omega (arith, table-count t))
 
--- "6: over 4,096 terms inserted, error paths counted", else "1: listing of errors, nothing else" where there is one, else "0: listing of .. terms"
-pub refused : (t : Tree) → 4096 < length (compile t .table) → compiling t ≡ refusal 6 0
+-- 6, else "1: listing of errors, nothing else" where there is one, else "0: listing of .. terms"
+pub refused : (t : Tree) → 4096 < inserted t → compiling t ≡ refusal 6 0
 unfolding compiling
-refused t h = ap (λ b. pick b (refusal 6 0) (listed (compile t) (compile t .errs))) (lt-ltb 4096 (length (compile t .table)) h)
+refused t h = ap (λ b. pick b (refusal 6 0) (listed (compile t) (compile t .errs))) (lt-ltb 4096 (length (compile t .table)) (omega (arith, h, table-count t)))
 
-accepted-as : (t : Tree) → length (compile t .table) ≤ 4096 → compiling t ≡ listed (compile t) (compile t .errs)
+not-refused : (t : Tree) → inserted t ≤ 4096 → compiling t ≡ listed (compile t) (compile t .errs)
 unfolding compiling
-accepted-as t h = ap (λ b. pick b (refusal 6 0) (listed (compile t) (compile t .errs))) (le-ltb 4096 (length (compile t .table)) h)
+not-refused t h = ap (λ b. pick b (refusal 6 0) (listed (compile t) (compile t .errs))) (le-ltb 4096 (length (compile t .table)) (omega (arith, h, table-count t)))
 
-pub listed-terms : (t : Tree) → length (compile t .table) ≤ 4096 → compile t .errs ≡ [] → compiling t ≡ listing 0 (termListing 2 (compile t .main) (compile t .table))
+pub listed-terms : (t : Tree) → inserted t ≤ 4096 → compile t .errs ≡ [] → compiling t ≡ listing 0 (termListing 2 (compile t .main) (compile t .table))
 unfolding listed
-listed-terms t h e = accepted-as t h ∙ ap (listed (compile t)) e
+listed-terms t h e = not-refused t h ∙ ap (listed (compile t)) e
 
-pub listed-errors : (t : Tree) (x : Err) (xs : List Err) → length (compile t .table) ≤ 4096 → compile t .errs ≡ x ∷ xs → compiling t ≡ listing 1 (errorListing 2 (x ∷ xs))
+pub listed-errors : (t : Tree) (x : Err) (xs : List Err) → inserted t ≤ 4096 → compile t .errs ≡ x ∷ xs → compiling t ≡ listing 1 (errorListing 2 (x ∷ xs))
 unfolding listed
-listed-errors t x xs h e = accepted-as t h ∙ ap (listed (compile t)) e
+listed-errors t x xs h e = not-refused t h ∙ ap (listed (compile t)) e

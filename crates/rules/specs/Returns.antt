@@ -1,27 +1,26 @@
 -- "a body may return calls of itself and of what its place allows": whatever a term returns, its place allows; and what this makes of a module's definitions.
 -- Assumes nothing.
-use mathlib.Core.Path.{_≡_, refl, sym, ap, subst, _∙_}
+use mathlib.Core.Path.{_≡_, refl, sym, subst, _∙_}
 use mathlib.Core.Bool.{Bool, true, false, cond}
 use mathlib.Core.Option.{Option, none, some}
-use mathlib.Core.List.{List, [], _∷_, _++_}
-use Prim.Native.Nat.{ℕ, zero, suc, _+_, _*_, _≤_, _<_, _^_}
+use mathlib.Core.List.{List, [], _∷_}
+use Prim.Native.Nat.{ℕ, suc, _+_, _*_, _≤_, _^_}
 use native.Mathlib.Omega.{arith}
-use lib.ListN.{length}
 use lib.Bits.{bitAnd, and-zero-r, or-zero-l}
 use lib.Count.{ones, ones-le, ones-cat}
 use lib.Dec.{ltb}
 use lib.Pow.{pow-pos}
 use borrow.Author.Tests.{eqb-true}
-use Rattle.tree.specs.Tree.{Name, Term, OptTerm, Terms, tsNil, tsCons, Branches, bNone, bElse, bPair, Defs, dsNil, dsCons, Def, def, Module, Tree, Operator, oComma, oAlt, oOr, oAnd, oAssign, oUpdate, oUpdateAlt, oMath, oUpdateMath, oCmp, oNone, operator, StrParts, sNil, sCons, Entries, esNil, esCons, noTerm, aTerm, tId, tRecurse, tArr, tNeg, tLabel, tBreak, tIfThenElse, tVar, tCall, tDef, tNum, tTryCatch, tFold, tPipe, tBinOp, tPath, tStr, tObj}
+use Rattle.tree.specs.Tree.{Name, Term, OptTerm, Terms, tsNil, tsCons, Branches, bNone, bElse, bPair, Defs, dsNil, dsCons, def, Module, Tree, Operator, oComma, oAlt, oOr, oAnd, oAssign, oUpdate, oUpdateAlt, oMath, oUpdateMath, oCmp, oNone, operator, Entries, esNil, esCons, noTerm, aTerm, tId, tRecurse, tArr, tNeg, tLabel, tBreak, tIfThenElse, tVar, tCall, tDef, tNum, tTryCatch, tFold, tPipe, tBinOp, tPath, tStr, tObj}
 use Rattle.rules.specs.Names.{Text, ascii, same}
 use Rattle.rules.specs.Table.{Node, Pat, Folding, Err}
-use Rattle.rules.specs.Tails.{Tail, empty, bit, union, has, without, subset, Fun, parent, sibling, returned, Call, localCall, moduleKind}
+use Rattle.rules.specs.Tails.{Tail, empty, bit, union, has, without, subset, Fun, parent, sibling, Call, localCall, moduleKind}
 use Rattle.rules.specs.Sets.{digit, digit-small, and-bit, subset-empty, subset-self, subset-trans, subset-union, subset-bit}
 use Rattle.rules.specs.Lists.{Every, every-append, every-map, either}
 use Rattle.rules.specs.Rows.{Env, Filter, filters, level, inside}
 use Rattle.rules.specs.Filters.{Top, Found, nothing, argument, local, ofModule, ofNative}
-use Rattle.rules.specs.Outs.{Out, Made, varOut, callOut, leftAllows, rightAllows, iteOut, sumOut, sumOr, pairOut, loneOut}
-use Rattle.rules.specs.Rules.{Waiting, called, foldEnd, foldOut, term, branches, waiting, entries, entry, body, defs}
+use Rattle.rules.specs.Outs.{Out, Made, varOut, callOut, leftAllows, rightAllows, iteOut, sumOut, sumOr, loneOut}
+use Rattle.rules.specs.Rules.{Waiting, called, foldEnd, foldOut, term, branches, waiting, entries, entry, defs}
 use Rattle.rules.specs.Modules.{topOf, modules}
 
 -- what o returns is a part of r

@@ -1,6 +1,6 @@
 -- What is bound where a term stands: rows of bindings, the last pushed first. Assumes nothing.
 use Prim.Native.Nat.{ℕ, zero, suc}
-use mathlib.Core.Bool.{Bool, cond}
+use mathlib.Core.Bool.{cond}
 use mathlib.Core.Option.{Option, none, some, Option·map}
 use mathlib.Core.List.{List, [], _∷_}
 use Rattle.tree.specs.Tree.{Name}

@@ -1,6 +1,6 @@
 -- The rules: what a term compiles to. Document 01's section Compiler, over the typed tree. Each sentence stands above what it says. Assumes nothing.
-use Prim.Native.Nat.{ℕ, zero, suc, _+_}
-use mathlib.Core.Bool.{Bool, true, false, cond}
+use Prim.Native.Nat.{ℕ, suc, _+_}
+use mathlib.Core.Bool.{cond}
 use mathlib.Core.Option.{Option, none, some}
 use mathlib.Core.List.{List, [], _∷_, _++_}
 use lib.ListN.{length}
@@ -10,7 +10,7 @@ use Rattle.tree.specs.Tree.{Name, textPlace, Term, OptTerm, noTerm, aTerm, Term
 use Rattle.rules.specs.Names.{Text, ascii, same}
 use Rattle.rules.specs.Table.{Rec, Node, nId, nRecurse, nToString, nInt, nStr, nArr, nObjEmpty, nLabel, nNeg, nPipe, nTryCatch, nFold, nPath, Pat, patVar, patIdx, Pats, patsNil, patsCons, Folding, reduce, foreach, Step, index, range, Err, uVar, uLabel, uFilter}
 use Rattle.rules.specs.Tails.{Tail, empty, bit, union, sibling}
-use Rattle.rules.specs.Rows.{Env, Row, var, label, arg, filter, count, level, findLabel, pushVars, filterOf, inside}
+use Rattle.rules.specs.Rows.{Env, Row, label, filter, count, level, findLabel, pushVars, filterOf, inside}
 use Rattle.rules.specs.Filters.{Top, variable, meant, errorAt}
 use Rattle.rules.specs.Outs.{Out, slot, size, node, leaf, fail, Made, bare, member, joined, made-as, varOut, numeral, callOut, leftAllows, rightAllows, binary, iteOut, sumOut, sumOr, varName, pairOut, loneOut, vars, varsOf, arity, isOptional}
 

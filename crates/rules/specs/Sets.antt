@@ -6,10 +6,10 @@ use Prim.Native.Nat.{ℕ, zero, suc, _+_, _-_, _*_, _/_, _%_, _^_, _≤_, _<_, m
 use native.Mathlib.Nat.{pow-suc, div-eq-of-lt, one-mul}
 use native.Mathlib.Omega.{arith}
 use lib.Dec.{eqb, ltb}
-use lib.Bits.{bitAnd, bitOr, bitXor, differ, and-step, or-step, xor-step, and-shr, or-shr, xor-shr, and-high, and-zero-l, and-zero-r, and-self, and-comm, xor-add-and}
+use lib.Bits.{bitAnd, bitOr, bitXor, differ, and-step, or-step, xor-step, and-shr, or-shr, xor-shr, and-high, and-zero-l, and-self, and-comm, xor-add-and}
 use lib.Pow.{pow-pos, pow-lt, pow-add, shr-shr, shl-shr}
 use borrow.Author.Tests.{ltb-true, ltb-false, eqb-true, lt-ltb, eq-eqb, ne-eqb}
-use Rattle.rules.specs.Tails.{Tail, empty, bit, union, has, without, subset}
+use Rattle.rules.specs.Tails.{empty, bit, union, has, without, subset}
 
 -- the digit of level l
 abbrev pub digit : ℕ → ℕ → ℕ

@@ -1,6 +1,6 @@
 -- Where records stand in a table. Assumes nothing.
 use mathlib.Core.Path.{_≡_, refl, subst}
-use mathlib.Core.Option.{Option, none, some, Option·none-ne-some}
+use mathlib.Core.Option.{some, Option·none-ne-some}
 use mathlib.Core.List.{List, [], _∷_, _++_}
 use Prim.Native.Nat.{ℕ, zero, suc, _+_, _<_}
 use native.Mathlib.Omega.{arith}
