@@ -22,7 +22,7 @@ use Rattle.rules.specs.Modules.{compile}
 use Rattle.rules.specs.Listing.{termListing, errorListing, listed, compiling}
 use Rattle.rules.specs.Returns.{returns, lone-call, one-member, moduleDefs, of-module-defs}
 use Rattle.rules.specs.Numbers.{In, Called, Fine}
-use Rattle.rules.specs.Fine.{table-fine}
+use Rattle.rules.specs.Fine.{Of, table-fine}
 use Rattle.rules.specs.Count.{inserted, table-count}
 
 -- "a body may return calls of itself and of what its place allows": a term that returns a call of an enclosing definition stands in a place that allows it
@@ -44,14 +44,14 @@ module-call-is-sibling-call t = of-module-defs (λ d. (r : Tail) → localCall (
 
 -- "Term numbers follow insertion order": main's number, and every number that a record has for a term, is below the count of terms, and a called number is a
 -- definition's, which takes the call's arguments (Numbers.antt says each)
-pub numbers-are-terms : (t : Tree) (k : ℕ) (r : Rec) → getElem? (compile t .table) k ≡ some r → Fine (compile t .table) (r .node)
-numbers-are-terms t k r e = every-at (λ x. Fine (compile t .table) (x .node)) (compile t .table) k r (table-fine t .0) e
+pub numbers-are-terms : (t : Tree) (k : ℕ) (r : Rec) → getElem? (compile t .table) k ≡ some r → Fine (compile t .table) (Of t) (r .node)
+numbers-are-terms t k r e = every-at (λ x. Fine (compile t .table) (Of t) (x .node)) (compile t .table) k r (table-fine t .0) e
 
 pub main-is-term : (t : Tree) → compile t .main < length (compile t .table)
 main-is-term t = table-fine t .1
 
 pub calls-are-definitions : (t : Tree) (k d s : ℕ) (as′ : List Arg) (how : Kind) (p : ℕ)
-    → getElem? (compile t .table) k ≡ some (record { place = p; node = nCallDef d as′ s how }) → Called (compile t .table) d as′
+    → getElem? (compile t .table) k ≡ some (record { place = p; node = nCallDef d as′ s how }) → Called (compile t .table) (Of t) d as′
 calls-are-definitions t k d s as′ how p e = numbers-are-terms t k (record { place = p; node = nCallDef d as′ s how }) e .2
 
 -- "6: over 4,096 terms inserted, error paths counted": how many are inserted is read off the tree, whatever its names mean
