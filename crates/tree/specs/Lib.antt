@@ -18,3 +18,5 @@ pub mod Verdict
 pub mod Back
 pub mod Unique
 pub mod Encoded
+pub mod Promises
+pub mod Examples
