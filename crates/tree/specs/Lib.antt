@@ -13,6 +13,8 @@ pub mod Typed
 pub mod Obeyed
 pub mod Wf
 pub mod Nest
+pub mod Count
+pub mod Formed
 pub mod Numbers
 pub mod Verdict
 pub mod Back
