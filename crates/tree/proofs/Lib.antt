@@ -3,6 +3,6 @@ pub mod Rows
 pub mod Leaves
 pub mod Headers
 pub mod Decides
+pub mod Seen
 pub mod Deep
 pub mod Using
-pub mod Sizes

@@ -89,5 +89,5 @@ module _ (b : List ℕ) (small : Bytes b) where
       sym (take-length b) ∙ ap (λ (n : ℕ). take n b) z ∙ row-run (rcons (fTree t) rnil) 0 (length b) h (omega arith) ∙ append-nil (bytesOf (fTree t))
 
 -- so two that hold the same tree are equal
-pub one-encoding : (b c : List ℕ) → Bytes b → Bytes c → (t : Tree) → At b t → At c t → b ≡ c
-one-encoding b c x y t h k = encoded b x t h ∙ sym (encoded c y t k)
+pub same-bytes : (b c : List ℕ) → Bytes b → Bytes c → (t : Tree) → At b t → At c t → b ≡ c
+same-bytes b c x y t h k = encoded b x t h ∙ sym (encoded c y t k)

@@ -13,8 +13,12 @@ pub mod Typed
 pub mod Obeyed
 pub mod Wf
 pub mod Nest
+pub mod Count
+pub mod Formed
 pub mod Numbers
 pub mod Verdict
 pub mod Back
 pub mod Unique
 pub mod Encoded
+pub mod Promises
+pub mod Examples

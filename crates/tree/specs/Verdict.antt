@@ -84,3 +84,14 @@ says-one b r s (nested l t h m n) (long l′) = absurd (omega arith)
 says-one b r s (nested l t h m n) (wrong l′ f) = absurd (f t h)
 says-one b r s (nested l t h m n) (deep l′ u k m′) = absurd (omega (arith, alike b 0 512 t u (h .at) (k .at) m))
 says-one b r s (nested l t h m n) (nested l′ u k m′ n′) = refl
+
+-- what an acceptance says
+accepted : (b : List ℕ) (r : ℕ) → Says b r → r ≡ 0 → (length b ≤ 32768) × ((t : Tree) × Encodes b t × (nesting t ≤ 512) × (defining t ≤ 64))
+accepted b r (fine l t h m n) e = (l, (t, h, m, n))
+accepted b r (long l) e = absurd (omega arith)
+accepted b r (wrong l f) e = absurd (omega arith)
+accepted b r (deep l t h m) e = absurd (omega arith)
+accepted b r (nested l t h m n) e = absurd (omega arith)
+
+pub says-zero : (b : List ℕ) → Says b 0 → (length b ≤ 32768) × ((t : Tree) × Encodes b t × (nesting t ≤ 512) × (defining t ≤ 64))
+says-zero b s = accepted b 0 s refl

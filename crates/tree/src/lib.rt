@@ -19,6 +19,8 @@ ghost use Rattle.tree.specs.Numbers.{below, usesBelow, numbered, Held, U
 ghost use Rattle.tree.specs.Nest.{counts, mark, pop, pushed, Shallow, stackOf};
 ghost use Rattle.tree.specs.Verdict.{Says, limits};
 ghost use Rattle.tree.specs.Wf.{Wf, Decided};
+ghost use Rattle.tree.specs.Count.{Passed};
+ghost use Rattle.tree.specs.Formed.{Formed};
 
 // ---- rows of members
 
@@ -196,40 +198,70 @@ fn leaf_ok(b: &[u8], p: usize, e: usize, s: usize) -> bool
 
 // ---- all headers
 
+// What the pass over all headers found: whether each is right; how many fields have members, and how many of them are definitions.
+struct Found {
+    ok: bool,
+    nodes: usize,
+    definitions: usize,
+}
+
+fn mark(on: bool) -> usize
+    ensures { λ r. ⌜ (r ≡ mark on) × (r ≤ 1) ⌝ }
+{
+    if on {
+        return 1;
+    }
+    0
+}
+
 // Are the bytes those of a tree, its module numbers aside?
-fn formed(t: &[u8], b: &[u8]) -> bool
+fn formed(t: &[u8], b: &[u8]) -> Found
     requires { ⌜ (length (now b) ≤ 32768) × (now t ≡ table) ⌝ }
-    ensures { λ r. ⌜ Decided r (Wf (now (b .entry))) ⌝ }
+    ensures { λ r. ⌜ Formed (now (b .entry)) r ⌝ }
 {
     let n = b.len();
+    let bad = Found {
+        ok: false,
+        nodes: 0,
+        definitions: 0,
+    };
     if row(t, b, 0, n, 0) {
         let mut p = 0;
+        let mut nodes = 0;
+        let mut definitions = 0;
         while p < n {
             if n - p < 3 {
-                return false;
+                return bad;
             }
             let e = end_of(b, p);
             if e > n {
-                return false;
+                return bad;
             }
-            let s = table::shape(t, b[p]);
+            let k = b[p];
+            let s = table::shape(t, k);
             if s >= 200 {
                 if leaf_ok(b, p + 3, e, s) {
                     p = e;
                 } else {
-                    return false;
+                    return bad;
                 }
             } else {
                 if row(t, b, p + 3, e, s) {
+                    definitions += mark(k == 0x8C);
+                    nodes += 1;
                     p += 3;
                 } else {
-                    return false;
+                    return bad;
                 }
             }
         }
-        return true;
+        return Found {
+            ok: true,
+            nodes: nodes,
+            definitions: definitions,
+        };
     }
-    false
+    bad
 }
 
 // ---- module numbers
@@ -304,15 +336,6 @@ fn counts(only: u8, k: u8) -> bool
     k == only
 }
 
-fn mark(on: bool) -> usize
-    ensures { λ r. ⌜ (r ≡ mark on) × (r ≤ 1) ⌝ }
-{
-    if on {
-        return 1;
-    }
-    0
-}
-
 // How many of the d ends are after p.
 fn ended(ends: &[u16], d: usize, p: usize) -> usize
     requires { ⌜ d ≤ length (now ends) ⌝ }
@@ -371,24 +394,24 @@ fn shallow(t: &[u8], b: &[u8], only: u8, limit: usize, ends: &mut [u16]) -> bool
     true
 }
 
-// Are at most 512 fields open at once? Each has three bytes of its own.
-fn fields_ok(t: &[u8], b: &[u8]) -> bool
-    requires { ⌜ (length (now b) ≤ 32768) × Wf (now b) × (now t ≡ table) ⌝ }
+// Are at most 512 fields open at once? Only the last of them can be without members.
+fn fields_ok(t: &[u8], b: &[u8], nodes: usize) -> bool
+    requires { ⌜ (length (now b) ≤ 32768) × Wf (now b) × (now t ≡ table) × Passed (now b) 0 0 nodes ⌝ }
     ensures { λ r. ⌜ Decided r (Shallow (now (b .entry)) 0 512 [] 0) ⌝ }
 {
-    if b.len() < 1539 {
+    if nodes < 512 {
         return true;
     }
     let mut ends = [0u16; 512];
     shallow(t, b, 0, 512, &mut ends)
 }
 
-// Are at most 64 definitions open at once? Each has a member that is no definition.
-fn definitions_ok(t: &[u8], b: &[u8]) -> bool
-    requires { ⌜ (length (now b) ≤ 32768) × Wf (now b) × (now t ≡ table) ⌝ }
+// Are at most 64 definitions open at once?
+fn definitions_ok(t: &[u8], b: &[u8], definitions: usize) -> bool
+    requires { ⌜ (length (now b) ≤ 32768) × Wf (now b) × (now t ≡ table) × Passed (now b) 0x8C 0 definitions ⌝ }
     ensures { λ r. ⌜ Decided r (Shallow (now (b .entry)) 0x8C 64 [] 0) ⌝ }
 {
-    if b.len() < 390 {
+    if definitions <= 64 {
         return true;
     }
     let mut ends = [0u16; 64];
@@ -396,12 +419,12 @@ fn definitions_ok(t: &[u8], b: &[u8]) -> bool
 }
 
 // What a well-formed tree comes to: 4 nested too deep, 5 definitions nested too deep, else 0.
-fn nested(t: &[u8], b: &[u8]) -> u8
-    requires { ⌜ (length (now b) ≤ 32768) × Wf (now b) × (now t ≡ table) ⌝ }
+fn nested(t: &[u8], b: &[u8], nodes: usize, definitions: usize) -> u8
+    requires { ⌜ (length (now b) ≤ 32768) × Wf (now b) × (now t ≡ table) × Passed (now b) 0 0 nodes × Passed (now b) 0x8C 0 definitions ⌝ }
     ensures { λ r. ⌜ ((t : Tree) → At (now (b .entry)) t → r ≡ limits t) ⌝ }
 {
-    if fields_ok(t, b) {
-        if definitions_ok(t, b) {
+    if fields_ok(t, b, nodes) {
+        if definitions_ok(t, b, definitions) {
             return 0;
         }
         return 5;
@@ -414,9 +437,10 @@ fn judged(t: &[u8], b: &[u8]) -> u8
     requires { ⌜ (length (now b) ≤ 32768) × (now t ≡ table) ⌝ }
     ensures { λ r. ⌜ Says (now (b .entry)) r ⌝ }
 {
-    if formed(t, b) {
+    let f = formed(t, b);
+    if f.ok {
         if numbered(b) {
-            return nested(t, b);
+            return nested(t, b, f.nodes, f.definitions);
         }
     }
     3
