@@ -52,7 +52,7 @@ fn program<'s>(tree: &'s [u8], arena: &'s Arena<String>) -> Result<Program<'s>, 
     } else if depth.definitions > DEEPEST_DEFINITION {
         Err(Due::refusal(5, 0))
     } else {
-        Ok(decode::decode(tree, arena))
+        Ok(decode::decode(tree, &|number| signed::hide(number, arena)))
     }
 }
 

@@ -105,6 +105,11 @@ fn content(tag: u8) -> Option<Content> {
     })
 }
 
+#[cfg(test)]
+pub fn is_tag(tag: u8) -> bool {
+    content(tag).is_some()
+}
+
 fn is_operator(byte: u8) -> bool {
     matches!(byte, 0x01..=0x07 | 0x10..=0x14 | 0x20..=0x25 | 0x30..=0x34)
 }
@@ -150,7 +155,7 @@ impl Open {
     }
 
     /// Whether no member is missing.
-    fn is_complete(mut self) -> bool {
+    fn complete(mut self) -> bool {
         while !self.slots.is_empty() {
             if self.next_slot().is_none() {
                 return false;
@@ -175,7 +180,7 @@ pub fn check(tree: &[u8]) -> Option<Depth> {
         if at == innermost.end {
             definitions -= usize::from(innermost.tag == DEFINITION);
             modules += usize::from(innermost.tag == 0x83);
-            if !open.pop()?.is_complete() {
+            if !open.pop()?.complete() {
                 return None;
             }
             if open.is_empty() {

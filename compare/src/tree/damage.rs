@@ -223,6 +223,13 @@ pub fn systematic(tree: &[u8], each: &mut dyn FnMut(&[u8])) {
     }
 }
 
+/// The tags of all fields of a tree.
+#[cfg(test)]
+pub fn tags(tree: &[u8]) -> std::collections::BTreeSet<u8> {
+    let mut whole = Raw::read(tree);
+    (0..whole.count()).map(|number| whole.at(number).tag).collect()
+}
+
 /// A tree with one or a few random changes.
 pub fn damaged(rng: &mut Rng, tree: &[u8]) -> Vec<u8> {
     let mut whole = Raw::read(tree);

@@ -1,16 +1,17 @@
 //! Reads a tree from bytes that are one. Every text is a slice of the tree bytes, so that its place
-//! can be told from it; the texts of numbers are the exception, which no error names.
+//! can be told from it.
 
 use super::operators::{CMP, MATH};
 use super::program::{Module, Program};
-use super::signed;
 use crate::load::lex::StrPart;
 use crate::load::parse::{BinaryOp, Def, Pattern, Term};
 use crate::path::{Opt, Part, Path};
-use crate::Arena;
 
-pub fn decode<'s>(tree: &'s [u8], arena: &'s Arena<String>) -> Program<'s> {
-    Decoder { arena }.program(members(tree).next().unwrap())
+/// The text of a number, or what stands for it. No error names it.
+pub type Number<'a, 's> = &'a dyn Fn(&'s str) -> &'s str;
+
+pub fn decode<'s>(tree: &'s [u8], number: Number<'_, 's>) -> Program<'s> {
+    Decoder { number }.program(members(tree).next().unwrap())
 }
 
 /// A field of a tree: its tag and its content.
@@ -48,11 +49,11 @@ impl<'s> Field<'s> {
     }
 }
 
-struct Decoder<'s> {
-    arena: &'s Arena<String>,
+struct Decoder<'a, 's> {
+    number: Number<'a, 's>,
 }
 
-impl<'s> Decoder<'s> {
+impl<'s> Decoder<'_, 's> {
     fn program(&self, tree: Field<'s>) -> Program<'s> {
         let mut members = tree.members().peekable();
         let natives = members.next().unwrap().members().map(|native| {
@@ -104,7 +105,7 @@ impl<'s> Decoder<'s> {
         let mut members = match term.0 {
             0xa5 => return Term::Break(term.text()),
             0xa7 => return Term::Var(term.text()),
-            0xaa => return Term::Num(signed::hide(term.text(), self.arena)),
+            0xaa => return Term::Num((self.number)(term.text())),
             _ => term.members().peekable(),
         };
         let name = members.next_if(|Field(tag, _)| matches!(tag, 0x90 | 0xba)).map(Field::text);

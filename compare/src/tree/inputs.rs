@@ -1,5 +1,5 @@
-//! Trees for the compiler: small ones without end, each limit from either side, programs as they are
-//! written, random ones, and all of these damaged.
+//! Trees for the compiler: every small one of a few forms, each limit from either side, programs as
+//! they are written, random ones, and damaged ones.
 
 use super::count::inserted;
 use super::damage::{damaged, systematic};
@@ -22,6 +22,8 @@ pub fn inputs(rng: &mut Rng, count: usize, each: &mut dyn FnMut(&[u8])) {
     numbers(each);
     small_terms(each);
     tail_places(each);
+    module_calls(each);
+    outer_variables(each);
     depths(each);
     counts(each);
     wide(each);
@@ -33,7 +35,7 @@ pub fn inputs(rng: &mut Rng, count: usize, each: &mut dyn FnMut(&[u8])) {
     for at in 0..count {
         let tree = random_tree(rng, at);
         each(&tree);
-        if rng.one_in(3) && !tree.is_empty() && tree.len() < 4_000 {
+        if rng.one_in(3) && tree.len() < 4_000 {
             each(&damaged(rng, &tree));
         }
     }
@@ -59,7 +61,7 @@ fn random_tree(rng: &mut Rng, at: usize) -> Vec<u8> {
 }
 
 /// A program that has a field of each tag, in each place that it may stand in.
-fn every_field() -> Program<'static> {
+pub fn every_field() -> Program<'static> {
     let main = source::term(
         "def f($x; g): $x; reduce 1 as [$a, {(.): $b}] (m::h; .) | label $l | break $l, \
          (if . then 1 else .. end | -[1] // try f(1; 2) catch {a: 1, $a}) as $c \
@@ -243,6 +245,81 @@ fn each_place(term: &Term<Text>, each: &mut dyn FnMut(Term<Text>)) {
     ));
 }
 
+/// Main calls what two modules define, or natives, in each way that it can use them; so does the
+/// second module.
+fn module_calls(each: &mut dyn FnMut(&[u8])) {
+    let bodies = [
+        "", "def f: 1;", "def f: f; def g: 2;", "def f: 1; def f: f, f; def f(a): 3;",
+        "def g($a): f; def f: g(.);",
+    ];
+    let bodies = bodies.map(|source| source::definitions(source).expect("definitions"));
+    let first = bodies.map(|body| Module { body, ..Module::default() });
+    let seconds = ["", "def f: 4;", "def f: f; def f(a): g;", "def g(a): m::f, f;"];
+    let seconds = seconds.map(|source| source::definitions(source).expect("definitions"));
+    let calls =
+        ["f", "g", "f(.)", "g(1)", "m::f", "m::g(1)", "n::f", "def f: 5; . as $x | f, m::f"];
+    let calls = calls.map(|source| source::term(source).expect("a term"));
+    let includes = [&[][..], &[0], &[1], &[0, 1], &[1, 0]];
+    let imports = [&[][..], &[(0, "m")], &[(0, "m"), (1, "m")], &[(1, "m"), (0, "m")], &[(1, "n")]];
+    let natives = [&[][..], &[("g", &["a"][..]), ("f", &[]), ("f", &[]), ("g", &["$a"])]];
+    for first in &first {
+        for (at, second) in seconds.iter().enumerate() {
+            let second = Module {
+                imports: imports[at % 3]
+                    .iter()
+                    .filter(|(number, _)| *number == 0)
+                    .copied()
+                    .collect(),
+                includes: vec![0; at % 2],
+                body: second.clone(),
+                ..Module::default()
+            };
+            for call in &calls {
+                for includes in includes {
+                    for imports in imports {
+                        for natives in natives {
+                            let mut program = Program::of(call.clone());
+                            program.main.includes = includes.to_vec();
+                            program.main.imports = imports.to_vec();
+                            program.modules = vec![first.clone(), second.clone()];
+                            let native = |(name, of): &(Text, &[Text])| (*name, of.to_vec());
+                            program.natives = natives.iter().map(native).collect();
+                            each(&encode(&program));
+                        }
+                    }
+                }
+            }
+        }
+    }
+}
+
+/// Variables of modules and globals, before and behind each other.
+fn outer_variables(each: &mut dyn FnMut(&[u8])) {
+    let lists = [&[][..], &["$v"], &["$w", "$v"], &["$v", "$w", "v"], &["$v", "$v", "$x"]];
+    let definitions = source::definitions("def f: $v; def g($w): $w, $v;").expect("definitions");
+    for body in ["$v", "$w, $v", ". as $v | $v, $w", "def f($x): $v, $x; f(.), $x", "{$v, w: $w}"] {
+        let term = source::term(body).expect("a term");
+        for first in lists {
+            for second in lists {
+                for main in lists {
+                    for globals in [None].into_iter().chain(lists.map(Some)) {
+                        let module = |variables: &[Text]| Module {
+                            variables: variables.to_vec(),
+                            body: definitions.clone(),
+                            ..Module::default()
+                        };
+                        let mut program = Program::of(term.clone());
+                        program.modules = vec![module(first), module(second)];
+                        program.main.variables = main.to_vec();
+                        program.globals = globals.map(<[_]>::to_vec);
+                        each(&encode(&program));
+                    }
+                }
+            }
+        }
+    }
+}
+
 /// A field around bytes.
 fn field(tag: u8, content: &[u8]) -> Vec<u8> {
     let [low, high] = (content.len() as u16).to_le_bytes();
@@ -257,8 +334,11 @@ fn tree_of(term: &[u8]) -> Vec<u8> {
 
 const ID: &[u8] = &[0xa0, 0, 0];
 
+/// Puts a field around another one.
+type Around<'a> = &'a dyn Fn(&[u8]) -> Vec<u8>;
+
 /// A term in which fields are nested: those of a list, again and again.
-fn nested(around: &[&dyn Fn(&[u8]) -> Vec<u8>], depth: usize, inner: &[u8]) -> Vec<u8> {
+fn nested(around: &[Around], depth: usize, inner: &[u8]) -> Vec<u8> {
     (0..depth).fold(inner.to_vec(), |inner, at| around[at % around.len()](&inner))
 }
 
@@ -276,7 +356,7 @@ pub fn nested_definitions(depth: usize) -> Vec<u8> {
 
 /// Nested to about each limit, well formed and not: by terms, patterns and definitions, compiled or
 /// not.
-fn depths(each: &mut dyn FnMut(&[u8])) {
+pub fn depths(each: &mut dyn FnMut(&[u8])) {
     let neg = |inner: &[u8]| field(0xa3, inner);
     let arr = |inner: &[u8]| field(0xa2, inner);
     let def = |inner: &[u8]| field(0xa9, inner);
@@ -285,9 +365,8 @@ fn depths(each: &mut dyn FnMut(&[u8])) {
     let conditional = |inner: &[u8]| field(0xa6, inner);
     let index = |inner: &[u8]| field(0xbe, inner);
     let path = |inner: &[u8]| field(0xae, &[ID, inner].concat());
-    let deep = |around: &[&dyn Fn(&[u8]) -> Vec<u8>], depth: usize, inner: &[u8]| {
-        tree_of(&nested(around, depth, inner))
-    };
+    let deep =
+        |around: &[Around], depth: usize, inner: &[u8]| tree_of(&nested(around, depth, inner));
     // the tree and main are open around a term
     for depth in (DEEPEST - 6..DEEPEST + 4).chain([1_000, 5_000, 10_900]) {
         for inner in [
@@ -336,8 +415,7 @@ fn depths(each: &mut dyn FnMut(&[u8])) {
         }
     }
     // both limits at once
-    for (definitions, more) in [(64, 384), (64, 385), (65, 382), (65, 383), (65, 384), (66, 1_000)]
-    {
+    for (definitions, more) in [(64, 381), (64, 382), (65, 379), (65, 380), (66, 1_000)] {
         let inner = nested(&[&neg], more, ID);
         each(&deep(&[&definition, &in_def], 2 * definitions, &inner));
     }
@@ -359,17 +437,14 @@ fn enclosing_definitions(each: &mut dyn FnMut(&[u8])) {
                     2 => comma(call(level), call(0)),
                     _ => (0..level).fold(call(level), |calls, of| comma(calls, call(of))),
                 };
-                let rest = match (&body, level + 1 < count) {
-                    (Some(_), true) => comma(calls, call(level + 1)),
-                    _ => calls,
-                };
-                let inner = match body {
+                body = Some(match body {
                     Some(body) => {
-                        Term::Def(vec![Def::new(&*names[level + 1], vec![], body)], Box::new(rest))
+                        let definition = Def::new(&*names[level + 1], vec![], body);
+                        let rest = comma(calls, call(level + 1));
+                        Term::Def(vec![definition], Box::new(rest))
                     }
-                    None => rest,
-                };
-                body = Some(inner);
+                    None => calls,
+                });
             }
             let definition = Def::new(&*names[0], vec![], body.unwrap());
             let mut program = Program::of(Term::Def(vec![definition.clone()], Box::new(call(0))));
@@ -382,7 +457,7 @@ fn enclosing_definitions(each: &mut dyn FnMut(&[u8])) {
 }
 
 /// Programs that insert about as many terms as are allowed, of each form, with errors and without.
-fn counts(each: &mut dyn FnMut(&[u8])) {
+pub fn counts(each: &mut dyn FnMut(&[u8])) {
     let ids = |count: usize| vec![Term::Id; count];
     let index = || (Part::Index(Term::Id), Opt::Essential);
     let path = |count: usize| Term::Path(Box::new(Term::Id), Path(vec![index(); count]));
@@ -412,8 +487,8 @@ fn counts(each: &mut dyn FnMut(&[u8])) {
             ids(2),
         ),
         // what is never compiled inserts nothing
-        Term::Fold("reduce", Box::new(path(2_000)), Pattern::Var("$a"), ids(1)),
-        Term::Fold("foreach", Box::new(Term::Id), Pattern::Var("$a"), ids(2_000)),
+        Term::Fold("reduce", Box::new(path(1_000)), Pattern::Var("$a"), ids(1)),
+        Term::Fold("foreach", Box::new(Term::Id), Pattern::Var("$a"), ids(1_000)),
         Term::Fold("fold", Box::new(path(500)), Pattern::Var("$a"), ids(500)),
         Term::Def(vec![Def::new("f", vec![], Term::Arr(None)); 500], Box::new(Term::Id)),
         Term::TryCatch(Box::new(path(500)), None),
@@ -421,7 +496,10 @@ fn counts(each: &mut dyn FnMut(&[u8])) {
     for form in forms {
         let with = |more| {
             let mut program = Program::of(operation(&form, BinaryOp::Comma, &path(more)));
-            program.natives = vec![("f", vec!["f"; 1_000]), ("!empty", vec![])];
+            program.natives = vec![("!empty", vec![])];
+            if let Term::Call("f", arguments) = &form {
+                program.natives.push(("f", vec!["$x"; arguments.len()]));
+            }
             program
         };
         let least = inserted(&with(0));
@@ -434,7 +512,7 @@ fn counts(each: &mut dyn FnMut(&[u8])) {
         }
     }
     // by definitions of modules
-    for count in [2_045, 2_046, 2_047, 2_048, 2_049] {
+    for count in 2_092..=2_096 {
         let mut program = Program::of(Term::Id);
         let body = vec![Def::new("f", vec![], Term::Id); 1_000];
         program.modules = vec![Module { body, ..Module::default() }; 2];

@@ -52,8 +52,10 @@ const SOURCES: &[&str] = &[
     "def f: def g: f, g; . as $x | if $x then g else f end; f",
 ];
 
-/// A program of one source with natives and globals: names, parameters behind `/`.
-const SURROUNDED: &[(&str, &[&str], Option<&[&str]>)] = &[
+/// A source, natives by name with each parameter behind a `/`, and globals.
+type Surrounded = (&'static str, &'static [&'static str], Option<&'static [&'static str]>);
+
+const SURROUNDED: &[Surrounded] = &[
     ("[]", &["!empty"], None),
     ("try .", &["f", "!empty"], None),
     ("[], try .", &[], None),

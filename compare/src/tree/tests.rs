@@ -422,6 +422,22 @@ fn lowest_refusal() {
 }
 
 #[test]
+fn limits_are_met() {
+    let mut seen = [0; 7];
+    let mut each = |tree: &[u8]| seen[usize::from(oracle(tree, &mut Vec::new()).number)] += 1;
+    let done = on_large_stack(|| inputs::counts(&mut each));
+    assert!(done.is_ok());
+    // twenty forms with and without natives, half of them below, and definitions of modules
+    assert_eq!((seen[0] + seen[1], seen[6]), (80 + 3, 80 + 2));
+
+    let mut seen = [0; 7];
+    let mut each = |tree: &[u8]| seen[usize::from(oracle(tree, &mut Vec::new()).number)] += 1;
+    let done = on_large_stack(|| inputs::depths(&mut each));
+    assert!(done.is_ok());
+    assert!([0, 1, 3, 4, 5].iter().all(|number| seen[*number] > 10), "{seen:?}");
+}
+
+#[test]
 fn what_is_read_is_what_was_written() {
     let done = on_large_stack(|| {
         for seed in 0..4_000 {
@@ -429,13 +445,31 @@ fn what_is_read_is_what_was_written() {
             let program = random::program(&mut rng, size);
             let tree = encode(&program);
             assert!(check::check(&tree).is_some());
-            let arena = Arena::default();
-            // a number with a sign has a mark, which is taken off the table again
-            let read = format!("{:?}", decode::decode(&tree, &arena)).replace("Num(\"!", "Num(\"");
-            assert!(read == format!("{program:?}"), "seed {seed}");
+            let read = decode::decode(&tree, &|number| number);
+            assert!(format!("{read:?}") == format!("{program:?}"), "seed {seed}");
         }
     });
     assert!(done.is_ok());
+}
+
+#[test]
+fn what_is_well_formed_is_what_would_be_written() {
+    let mut seen = [0, 0];
+    let mut each = |bytes: &[u8]| {
+        let well_formed = bytes.len() <= LONGEST_INPUT && check::check(bytes).is_some();
+        seen[usize::from(well_formed)] += 1;
+        if well_formed {
+            assert!(encode(&decode::decode(bytes, &|number| number)) == bytes);
+        }
+    };
+    let done = on_large_stack(|| inputs(&mut Rng::new(8), 10_000, &mut each));
+    assert!(done.is_ok() && seen.iter().all(|count| *count > 50_000), "{seen:?}");
+}
+
+#[test]
+fn every_tag_is_damaged() {
+    let seen = damage::tags(&encode(&inputs::every_field()));
+    assert!(seen.into_iter().eq((0..=255).filter(|tag| check::is_tag(*tag))));
 }
 
 #[test]
