@@ -373,7 +373,8 @@ def runs{n}: foreach .[] as [$a, {b: $c}] ({n}; . + $a * $c; [., -$a]) | .[1:{n}
 /// Filters and a library, with their names.
 pub fn to_measure() -> [(&'static str, String); 3] {
     let library: String = (10..38).map(|n| LIBRARY.replace("{n}", &n.to_string())).collect();
-    let filter = "[.bays[] | select(.open and .level > 2.5) | {id, level: (.level * 100), text: \"bay \\(.id)\"}]";
+    let filter = "[.bays[] | select(.open and .level > 2.5) \
+        | {id, level: (.level * 100), text: \"bay \\(.id)\"}] | first";
     [
         ("a filter of 13 bytes", ".[] | .a + 10".to_owned()),
         ("a filter of 100 bytes", filter.to_owned()),
