@@ -492,7 +492,7 @@ fn the_prelude_has_no_errors() {
 #[test]
 fn sample_is_small() {
     let (mut cases, mut bytes, mut answers, mut tags) = (0, 1, [0; 9], [false; 0x6c]);
-    sample(&mut |tree, lent| {
+    let mut each = |tree: &[u8], lent| {
         let case = crate::room::recorded(&SUBJECT, tree, lent);
         let answer = 1 + 4 + tree.len() + 4;
         answers[case[answer] as usize] += 1;
@@ -503,7 +503,8 @@ fn sample_is_small() {
         }
         cases += 1;
         bytes += case.len();
-    });
+    };
+    assert!(on_large_stack(|| sample(&mut each)).is_ok());
     assert!(cases >= 250 && bytes <= 65_536, "{cases} cases, {bytes} bytes");
     assert!((0..=7).all(|number| answers[number] > 0));
     assert!((0x28..=0x2b).chain(0x50..=0x6b).all(|tag| tags[tag]));
