@@ -222,6 +222,7 @@ fn each_place(term: &Term<Text>, each: &mut dyn FnMut(Term<Text>)) {
     };
     (0..4).for_each(|at| each(Term::IfThenElse(pairs(at), None)));
     each(Term::IfThenElse(pairs(1), Some(t())));
+    each(Term::IfThenElse(vec![(Term::Id, Term::Id)], Some(t())));
     for (name, count) in [("reduce", 2), ("foreach", 2), ("foreach", 3)] {
         each(Term::Fold(name, t(), Pattern::Var("$a"), vec![Term::Id; count]));
         each(Term::Fold(name, id(), pattern.clone(), vec![Term::Id; count]));
