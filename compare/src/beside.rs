@@ -12,19 +12,21 @@ pub enum Bind<V = (), F = V> {
 
 impl<V, F> Bind<V, F> {
     pub fn as_ref(&self) -> Bind<&V, &F> {
-        match self {
-            Self::Var(x) => Bind::Var(x),
-            Self::Fun(x) => Bind::Fun(x),
+        match *self {
+            Bind::Var(ref variable) => Bind::Var(variable),
+            Bind::Fun(ref filter) => Bind::Fun(filter),
         }
     }
 }
 
 impl<T> Bind<T> {
-    pub fn map<U>(self, f: impl FnOnce(T) -> U) -> Bind<U> {
-        match self {
-            Self::Var(x) => Bind::Var(f(x)),
-            Self::Fun(x) => Bind::Fun(f(x)),
-        }
+    pub fn map<U>(self, change: impl FnOnce(T) -> U) -> Bind<U> {
+        let (is_variable, of) = match self {
+            Bind::Var(of) => (true, of),
+            Bind::Fun(of) => (false, of),
+        };
+        let constructor = if is_variable { Bind::Var } else { Bind::Fun };
+        constructor(change(of))
     }
 }
 

@@ -170,7 +170,7 @@ fn limits(rng: &mut Rng, each: &mut dyn FnMut(&[u8])) {
 }
 
 fn random_row(rng: &mut Rng) -> Vec<u8> {
-    let most = *rng.pick(&[8, 8, 8, 30, 30, 100, 300, 1_100]);
+    let most = rng.pick(&[8, 8, 8, 30, 30, 100, 300, 1_100]);
     let count = rng.below(most + 1);
     let shape = rng.below(SHAPES);
     let mut row = row_of(rng, shape, count);
@@ -202,7 +202,7 @@ fn row_of(rng: &mut Rng, shape: usize, count: usize) -> Vec<u8> {
         // teeth
         5 => [(at as u8).wrapping_mul(step), rng.byte() & 1],
         // few precedences
-        _ => [*rng.pick(&few), rng.byte() & 1],
+        _ => [rng.pick(&few), rng.byte() & 1],
     };
     (0..count).map(operator).collect::<Vec<_>>().concat()
 }

@@ -27,4 +27,4 @@ macro_rules! entries {
     };
 }
 
-entries!(CLIMB: filter_climb, LEX: filter_lex);
+entries!(CLIMB: filter_climb, LEX: filter_lex, COMPILE: filter_compile);

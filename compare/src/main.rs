@@ -13,6 +13,7 @@ mod gen;
 mod lex;
 mod library;
 mod room;
+mod tree;
 
 // The Rust's files, at the paths by which they name each other.
 include!(concat!(env!("OUT_DIR"), "/rust.rs"));
@@ -23,12 +24,10 @@ use std::process::ExitCode;
 use std::thread;
 
 const USAGE: &str = "\
-usage: compare run [climb | lex] [SEED] [COUNT]
-       compare bench [climb | lex]
-       compare record climb | lex > FILE";
-
-/// The Rust calls itself once for each level of nesting.
-const STACK: usize = 1 << 29;
+usage: compare run [climb | lex | tree] [SEED] [COUNT]
+       compare bench [climb | lex | tree]
+       compare record climb | lex | tree > FILE
+       compare tree [--native NAME/ARITY] .. [--global '$NAME'] .. [--prelude FILE] < SOURCE > TREE";
 
 type Inputs<'a> = &'a mut dyn FnMut(&[u8]);
 type Cases<'a> = &'a mut dyn FnMut(&[u8], room::Lent);
@@ -60,13 +59,19 @@ const SIDES: &[Side] = &[
         sample: lex::sample,
         bench: lex::bench,
     },
+    Side {
+        subject: tree::SUBJECT,
+        inputs: tree::inputs,
+        count: 300_000,
+        sample: tree::sample,
+        bench: tree::bench,
+    },
 ];
 
 fn main() -> ExitCode {
     let args: Vec<String> = std::env::args().skip(1).collect();
-    let work = move || command(&args.iter().map(String::as_str).collect::<Vec<_>>());
-    let worker = thread::Builder::new().stack_size(STACK).spawn(work).unwrap();
-    match worker.join() {
+    let args: Vec<&str> = args.iter().map(String::as_str).collect();
+    match on_large_stack(|| command(&args)) {
         Ok(Some(true)) => ExitCode::SUCCESS,
         Ok(Some(false)) | Err(_) => ExitCode::FAILURE,
         Ok(None) => {
@@ -76,9 +81,20 @@ fn main() -> ExitCode {
     }
 }
 
+/// The Rust calls itself once for each level of nesting.
+fn on_large_stack<T: Send>(work: impl FnOnce() -> T + Send) -> thread::Result<T> {
+    const STACK: usize = 1 << 29;
+    thread::scope(|scope| {
+        thread::Builder::new().stack_size(STACK).spawn_scoped(scope, work).unwrap().join()
+    })
+}
+
 /// Whether the command succeeded, or none where there is no such command.
 fn command(args: &[&str]) -> Option<bool> {
     let (command, rest) = args.split_first()?;
+    if *command == "tree" {
+        return tree::command(rest);
+    }
     let (sides, rest) = select(rest);
     match (*command, rest) {
         ("run", _) => run(sides, rest),

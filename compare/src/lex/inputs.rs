@@ -188,7 +188,7 @@ fn depths(rng: &mut Rng, each: &mut dyn FnMut(&[u8])) {
     for _ in 0..3_000 {
         let mut source = BRACKETS[rng.below(4)].repeat(DEEPEST / 2 - 8 + rng.below(DEEPEST / 2));
         for _ in 0..rng.below(80) {
-            source += *rng.pick(BRACKETS);
+            source += rng.pick(BRACKETS);
         }
         each(source.as_bytes());
     }
@@ -220,7 +220,7 @@ fn random_source(rng: &mut Rng) -> Vec<u8> {
         1 => soup(rng, BRACKETS, 60),
         2 => soup(rng, ALPHABET, 30),
         _ => {
-            let most = *rng.pick(&[4, 8, 8, 20, 20, 60, 300]);
+            let most = rng.pick(&[4, 8, 8, 20, 20, 60, 300]);
             soup(rng, PIECES, most)
         }
     };
@@ -243,7 +243,7 @@ fn soup(rng: &mut Rng, pieces: &[&str], most: usize) -> String {
     let spaced = rng.one_in(2);
     let mut source = String::new();
     for _ in 0..count {
-        source += *rng.pick(pieces);
+        source += rng.pick(pieces);
         if spaced && rng.one_in(2) {
             source.push(' ');
         }
@@ -258,12 +258,12 @@ fn change(rng: &mut Rng, source: &mut String) {
         if places.is_empty() {
             return;
         }
-        let at = *rng.pick(&places);
+        let at = rng.pick(&places);
         match rng.below(3) {
             0 => {
                 source.remove(at);
             }
-            1 => source.insert_str(at, rng.pick::<&str>(PIECES)),
+            1 => source.insert_str(at, rng.pick(PIECES)),
             _ => source.truncate(at),
         }
     }
@@ -373,7 +373,8 @@ def runs{n}: foreach .[] as [$a, {b: $c}] ({n}; . + $a * $c; [., -$a]) | .[1:{n}
 /// Filters and a library, with their names.
 pub fn to_measure() -> [(&'static str, String); 3] {
     let library: String = (10..38).map(|n| LIBRARY.replace("{n}", &n.to_string())).collect();
-    let filter = "[.bays[] | select(.open and .level > 2.5) | {id, level: (.level * 100), text: \"bay \\(.id)\"}]";
+    let filter = "[.bays[] | select(.open and .level > 2.5) \
+        | {id, level: (.level * 100), text: \"bay \\(.id)\"}] | first";
     [
         ("a filter of 13 bytes", ".[] | .a + 10".to_owned()),
         ("a filter of 100 bytes", filter.to_owned()),

@@ -223,3 +223,13 @@ fn sample_is_small() {
     assert!([0, 1, 2, 3, 4, 7].into_iter().all(|number| answers[number] > 0));
     assert!((0..=10).chain(0x20..=0x25).all(|tag| tags[tag]));
 }
+
+#[test]
+fn what_is_measured() {
+    assert_eq!(inputs::to_measure().map(|(_, source)| source.len() / 10), [1, 10, 1_184]);
+    // all but the errors are free of them
+    let sources = inputs::to_measure().into_iter().map(|(_, source)| source);
+    let filled = inputs::TO_GROW.iter().map(|(_, piece)| inputs::filled(piece, LONGEST_INPUT));
+    let with_errors = sources.chain(filled).filter(|source| answer(source).0 != 0);
+    assert_eq!(with_errors.count(), 1);
+}
