@@ -46,26 +46,44 @@ pub fn put(out: &mut [u8], at: usize, bytes: &[u8]) -> usize
     end
 }
 
-// Puts a field of two numbers: a record of 7 bytes, by straight stores where it fits, since most of a listing is such fields.
+// The bytes of a field of two numbers.
+fn pair(tag: u8, a: usize, b: usize) -> [u8; 7]
+    ensures { λ r. ⌜ r ≡ field tag (number 2 a ++ number 2 b) ⌝ }
+{
+    [
+        tag,
+        4,
+        0,
+        (a % 256) as u8,
+        (a / 256 % 256) as u8,
+        (b % 256) as u8,
+        (b / 256 % 256) as u8,
+    ]
+}
+
+// Stores a field of two numbers, for which there is room: a record of 7 bytes, each byte at once.
+pub fn store_pair(out: &mut [u8], at: usize, tag: u8, a: usize, b: usize)
+    requires { ⌜ at + 7 ≤ length (now out) ⌝ }
+    ensures { λ _. ⌜ now (out .exit) ≡ overlay (now (out .entry)) at (field tag (number 2 a ++ number 2 b)) ⌝ }
+{
+    out[at] = tag;
+    out[at + 1] = 4;
+    out[at + 2] = 0;
+    out[at + 3] = (a % 256) as u8;
+    out[at + 4] = (a / 256 % 256) as u8;
+    out[at + 5] = (b % 256) as u8;
+    out[at + 6] = (b / 256 % 256) as u8;
+}
+
+// Puts a field of two numbers, as far as there is room, which nearly always there is.
 pub fn put_pair(out: &mut [u8], at: usize, tag: u8, a: usize, b: usize) -> usize
     requires { ⌜ at + 7 < 2 ^ 64 ⌝ }
     ensures { λ r. ⌜ (r ≡ at + 7) × (now (out .exit) ≡ overlay (now (out .entry)) at (field tag (number 2 a ++ number 2 b))) ⌝ }
 {
-    let low = (a % 256) as u8;
-    let high = (a / 256 % 256) as u8;
-    let lower = (b % 256) as u8;
-    let higher = (b / 256 % 256) as u8;
-    let end = at + 7;
-    if end <= out.len() {
-        out[at] = tag;
-        out[at + 1] = 4;
-        out[at + 2] = 0;
-        out[at + 3] = low;
-        out[at + 4] = high;
-        out[at + 5] = lower;
-        out[at + 6] = higher;
-        return end;
+    if at + 7 <= out.len() {
+        store_pair(out, at, tag, a, b);
+        return at + 7;
     }
-    let bytes = [tag, 4, 0, low, high, lower, higher];
+    let bytes = pair(tag, a, b);
     put(out, at, &bytes)
 }

@@ -1,0 +1,4 @@
+pub mod Row
+pub mod Climbing
+pub mod Climb
+pub mod Examples

@@ -1,0 +1,4 @@
+mod Numbers
+mod Rooms
+mod Cases
+mod Counts

@@ -1,0 +1,4 @@
+pub mod Case
+pub mod Lent
+pub mod Replay
+pub mod Count

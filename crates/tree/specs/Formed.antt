@@ -1,0 +1,13 @@
+-- What the pass over all headers says: whether each is right, and if so how many fields have members, and how many of these are definitions. Assumes nothing.
+use Prim.Native.Nat.{ℕ}
+use mathlib.Core.Path.{_≡_}
+use mathlib.Core.List.{List}
+use mathlib.Core.Bool.{true}
+use Rattle.tree.specs.declared.Found.{Found}
+use Rattle.tree.specs.Wf.{Wf, Decided}
+use Rattle.tree.specs.Count.{Passed}
+
+pub record Formed (b : List ℕ) (r : Found) : Type 0 where
+  pub decided : Decided (r .ok) (Wf b)
+  pub nodes : r .ok ≡ true → Passed b 0 0 (r .nodes)
+  pub definitions : r .ok ≡ true → Passed b 0x8C 0 (r .definitions)
