@@ -12,4 +12,5 @@ pub mod Lex
 pub mod Listing
 pub mod Lexing
 pub mod Meets
+pub mod Due
 pub mod Examples

@@ -9,28 +9,44 @@ mod space;
 mod sym;
 mod word;
 
+ghost use mathlib.Core.Path.{_≡_};
+ghost use Prim.Native.Nat.{_+_, _≤_, _<_};
+ghost use lib.ListN.{length, take};
+ghost use Rattle.fields.specs.Outcome.{refusal};
+ghost use Rattle.fields.specs.Room.{overlay};
+ghost use Rattle.lexer.specs.Lex.{whole};
+ghost use Rattle.lexer.specs.Lexing.{listed};
+ghost use Rattle.lexer.specs.Due.{deepness, tokensDue, errorsDue, Listed, Told, Lexed};
+
 use fields::Answer;
 use scan::State;
 
-fn whole(s: &[u8], out: &mut [u8], err: &mut [u8]) -> State {
+// The whole source: its tokens into one room, what is wrong with it into the other.
+fn whole(s: &[u8], out: &mut [u8], err: &mut [u8]) -> State
+    requires { ⌜ length (now s) ≤ 32768 ⌝ }
+    ensures { λ r. ⌜ Listed (whole (now (s .entry))) (now (out .entry)) (now (out .exit)) (now (err .entry)) (now (err .exit)) r ⌝ }
+{
     let edition = [0, 1, 0, 1];
     let o = fields::put(out, 0, &edition);
     let e = fields::put(err, 0, &edition);
-    let p = cycle::tokens(
-        s,
-        128,
-        State {
-            at: 0,
-            tokens: o,
-            errors: e,
-            deep: 0,
-        },
-        out,
-        err,
-    );
+    let top = State {
+        at: 0,
+        tokens: o,
+        errors: e,
+        deep: 0,
+    };
+    let p = cycle::tokens(s, 128, top, out, err);
     if p.deep != 0 {
         return p;
     }
+    rest(s, p, err)
+}
+
+// "After the top tokens and space, any rest is one Token error at its start."
+fn rest(s: &[u8], p: State, err: &mut [u8]) -> State
+    requires { ⌜ Ready (now s) p ⌝ }
+    ensures { λ r. ⌜ Rests (now (s .entry)) p (now (err .entry)) (now (err .exit)) r ⌝ }
+{
     let at = space::space(s, p.at);
     if at < s.len() {
         return State {
