@@ -1,0 +1,2 @@
+-- Theorems on the definitions of `lexer`.
+pub mod Facts
