@@ -1,2 +1,6 @@
 -- What holds of the lexer's definitions, whatever code meets them.
 pub mod Onward
+pub mod Shape
+pub mod Spans
+pub mod Scans
+pub mod Sound

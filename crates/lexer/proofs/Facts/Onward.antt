@@ -131,7 +131,7 @@ skip-on (suc k) s at h =
     (λ e. further s at _ _ behind (skip-on k s (at + blank s at) (behind .high)))
     (λ e. either (Onward s at) (eqb (byte s at) 0x23) _ _
     (λ f. let below = comment-on (suc (length s)) s (at + 1) (omega (arith, byte-is s at 0x23 (omega arith) f)) in
-        further s at _ _ (record { low = omega (arith, below .low); high = below .high }) (skip-on k s _ (below .high)))
+    further s at _ _ (record { low = omega (arith, below .low); high = below .high }) (skip-on k s _ (below .high)))
     (λ f. stay s at h))
 
 pub space-on : (s : List ℕ) (at : ℕ) → at ≤ length s → Onward s at (space s at)
