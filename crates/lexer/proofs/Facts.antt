@@ -4,3 +4,4 @@ pub mod Shape
 pub mod Spans
 pub mod Scans
 pub mod Sound
+pub mod Fuel
