@@ -5,3 +5,5 @@ pub mod Spans
 pub mod Scans
 pub mod Sound
 pub mod Fuel
+pub mod Blanks
+pub mod Free

@@ -1,5 +1,5 @@
 -- "The first number only bounds the depth of the recursion: three for each byte that is left, and three more, are enough, and what is found does not depend
--- on it." So it is with the numbers that bound the lines of a comment and the turns of skipping space. Assumes nothing.
+-- on it." Assumes nothing.
 use mathlib.Core.Path.{_≡_, refl, ap, _∙_}
 use mathlib.Core.Bool.{Bool, true, false, cond}
 use mathlib.Core.List.{List, [], _∷_, _++_}
