@@ -7,3 +7,4 @@ pub mod Sound
 pub mod Fuel
 pub mod Blanks
 pub mod Free
+pub mod Tags
