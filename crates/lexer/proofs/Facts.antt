@@ -8,3 +8,6 @@ pub mod Fuel
 pub mod Blanks
 pub mod Free
 pub mod Tags
+pub mod Nesting
+pub mod Openers
+pub mod Listed

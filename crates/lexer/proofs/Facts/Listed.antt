@@ -1,0 +1,1 @@
+-- What a listing and a refusal come from. Assumes nothing.
