@@ -11,3 +11,4 @@ pub mod Tags
 pub mod Nesting
 pub mod Openers
 pub mod Listed
+pub mod Depth
