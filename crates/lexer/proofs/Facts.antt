@@ -12,3 +12,4 @@ pub mod Nesting
 pub mod Openers
 pub mod Listed
 pub mod Depth
+pub mod Promises

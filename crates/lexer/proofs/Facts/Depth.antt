@@ -17,6 +17,8 @@ use Rattle.lexer.specs.Escape.{named, hexDigit, hexes, surrogate, unicod
 use Rattle.lexer.specs.Read.{Read, read, deep, after, andThen, enclose}
 use Rattle.lexer.specs.Lex.{leafAt, closing, close, textByte, text, tokens, token, block, str, parts, escape, rest, whole}
 use Rattle.lexer.proofs.Facts.Onward.{either}
+use Rattle.lexer.proofs.Facts.Free.{tokensAt}
+use Rattle.lexer.proofs.Facts.Openers.{Breaks, breaks-not, tokens-breaks}
 
 -- the start of the first block or string with n others around it
 unfoldable mutual
@@ -175,3 +177,49 @@ mutual
   pub escape-narrow : (k : ℕ) (s : List ℕ) (m n at : ℕ) → n ≤ m → Narrow n (escape k s m at) (escape k s n at)
   escape-narrow zero s m n at h = both
   escape-narrow (suc k) s m n at h = cond-both (Narrow n) (eqb (byte s at) 0x28) _ _ _ _ (λ e. block-narrow k s m n at h) (λ e. simple-level n s at)
+
+-- ---- in words of the results
+
+narrow-same : {n b : ℕ} {ts : Tokens} {es : List Error} {q : Read} → Narrow n (read b ts es) q → over ts n ≡ Option.none → q ≡ read b ts es
+narrow-same (same e) f = refl
+narrow-same (first e) f = absurd (let z : _≡_ {A = ℕ} 0 1 = cc in omega arith)
+
+narrow-first : {n b p : ℕ} {ts : Tokens} {es : List Error} {q : Read} → Narrow n (read b ts es) q → over ts n ≡ some p → q ≡ deep p
+narrow-first (same e) f = absurd (let z : _≡_ {A = ℕ} 0 1 = cc in omega arith)
+narrow-first (first {p = r} e) f = ap deep (let z : r ≡ _ = cc in z)
+
+narrow-refused : {n b p : ℕ} {ts : Tokens} {es : List Error} → Narrow n (read b ts es) (deep p) → over ts n ≡ some p
+narrow-refused (first e) = e
+
+module _ (s : List ℕ) (m n at : ℕ) (fewer : n ≤ m) (b : ℕ) (ts : Tokens) (es : List Error) (all : tokensAt s m at ≡ read b ts es) where
+  narrowed : Narrow n (read b ts es) (tokensAt s n at)
+  unfolding tokensAt
+  narrowed = rw all at (tokens-narrow (3 * length s + 4) s m n at fewer)
+
+  -- no block or string has n others around it: the same is read
+  pub depth-kept : over ts n ≡ Option.none → tokensAt s n at ≡ read b ts es
+  depth-kept e = narrow-same narrowed e
+
+  -- one has: reading breaks off at the first that does
+  pub depth-over : (p : ℕ) → over ts n ≡ some p → tokensAt s n at ≡ deep p
+  depth-over p e = narrow-first narrowed e
+
+  -- and for no other reason
+  pub depth-refused : (p : ℕ) → tokensAt s n at ≡ deep p → over ts n ≡ some p
+  depth-refused p e = narrow-refused (rw e at narrowed)
+
+-- what was read
+pub record Result (q : Read) : Type 0 where
+  pub at : ℕ
+  pub row : Tokens
+  pub errors : List Error
+  pub is : q ≡ read at row errors
+
+-- where as many may be opened as there are bytes, reading never breaks off
+pub depth-enough : (s : List ℕ) (m : ℕ) → length s ≤ m → Result (tokensAt s m 0)
+unfolding tokensAt
+depth-enough s m h = go (tokens (3 * length s + 4) s m 0) refl (tokens-breaks (3 * length s + 4) s m 0 (omega arith) (omega arith))
+  where
+    go : (q : Read) → tokens (3 * length s + 4) s m 0 ≡ q → Breaks s (0 + m) q → Result (tokens (3 * length s + 4) s m 0)
+    go (read b ts es) e z = record { at = b; row = ts; errors = es; is = e }
+    go (deep p) e z = absurd (breaks-not z (omega arith))

@@ -17,7 +17,7 @@ use Rattle.lexer.specs.Kind.{kind}
 use Rattle.lexer.specs.Escape.{simple}
 use Rattle.lexer.specs.Read.{Read, read, deep, nothing, found, wrong, after, andThen, enclose}
 use Rattle.lexer.specs.Lex.{leafAt, closing, close, textByte, text, tokens, token, block, str, parts, escape, rest, whole}
-use Rattle.lexer.proofs.Facts.Onward.{Onward, byte-is, past-on, space-on}
+use Rattle.lexer.proofs.Facts.Onward.{Onward, either, byte-is, past-on, space-on}
 use Rattle.lexer.proofs.Facts.Sound.{Sound, kind-in, tokens-sound, token-sound, escape-sound}
 use Rattle.lexer.proofs.Facts.Fuel.{then-same, tokens-fuel, token-fuel, block-fuel, str-fuel, parts-fuel, escape-fuel}
 
@@ -193,3 +193,19 @@ whole-all s b ts es e h = rw (e, h, le-ltb (length s) (length s) (omega arith), 
 pub whole-deep : (s : List ℕ) (p : ℕ) → tokensAt s 128 0 ≡ deep p → whole s ≡ deep p
 unfolding whole tokensAt andThen
 whole-deep s p e = rw e
+
+differ : (b : ℕ) (ts : Tokens) (es : List Error) (p : ℕ) → read b ts es ≡ deep p → ⊥
+differ b ts es p e = let z : _≡_ {A = ℕ} 0 1 = cc in omega arith
+
+-- reading the rest never breaks off
+rest-reads : (s : List ℕ) (ts : Tokens) (es : List Error) (at p : ℕ) → after ts es (rest s at) ≡ deep p → ⊥
+unfolding rest after
+rest-reads s ts es at p = either (λ q. after ts es q ≡ deep p → ⊥) (ltb at (length s)) _ _ (λ t e. differ _ _ _ p e) (λ t e. differ _ _ _ p e)
+
+pub deep-whole : (s : List ℕ) (p : ℕ) → whole s ≡ deep p → tokensAt s 128 0 ≡ deep p
+unfolding whole tokensAt andThen
+deep-whole s p e = go (tokens (3 * length s + 4) s 128 0) refl e
+  where
+    go : (q : Read) → tokens (3 * length s + 4) s 128 0 ≡ q → andThen q (λ b. rest s (space s b)) ≡ deep p → tokens (3 * length s + 4) s 128 0 ≡ deep p
+    go (read b ts es) f g = absurd (rest-reads s ts es (space s b) p g)
+    go (deep r) f g = f ∙ g

@@ -106,3 +106,28 @@ refused s n p e = go (ltb 32768 (length s)) (ltb (validPrefix s) (length s)) ref
     go true u f q = let w : 0 ≡ p = cc in omega arith
     go false true f q = let w : validPrefix s ≡ p = cc in omega (arith, ltb-true (validPrefix s) (length s) f)
     go false false f q = deeper (whole s) (whole-sound s) q
+
+-- "2: input over 32,768 bytes": so what is listed fits two bytes
+pub listed-short : (s bytes : List ℕ) (n : ℕ) → lexing s ≡ listing n bytes → length s ≤ 32768
+unfolding lexing
+listed-short s bytes n e = go (ltb 32768 (length s)) refl e
+  where
+    go : (t : Bool) → ltb 32768 (length s) ≡ t
+        → cond t (refusal 2 0) (cond (ltb (validPrefix s) (length s)) (refusal 3 (validPrefix s)) (listed 2 (whole s))) ≡ listing n bytes → length s ≤ 32768
+    go true f q = absurd (listing-not n 2 0 bytes (sym q))
+    go false f q = ltb-false 32768 (length s) f
+
+-- "4: nesting over 128 in source"
+pub refused-deep : (s : List ℕ) (p : ℕ) → lexing s ≡ refusal 4 p → whole s ≡ deep p
+unfolding lexing listed
+refused-deep s p e = go (ltb 32768 (length s)) (ltb (validPrefix s) (length s)) e
+  where
+    deeper : (q : Read) → listed 2 q ≡ refusal 4 p → q ≡ deep p
+    deeper (deep c) g = cc
+    deeper (read b ts []) g = absurd (let w : _≡_ {A = ℕ} 0 1 = cc in omega arith)
+    deeper (read b ts (x ∷ es)) g = absurd (let w : _≡_ {A = ℕ} 0 1 = cc in omega arith)
+
+    go : (t u : Bool) → cond t (refusal 2 0) (cond u (refusal 3 (validPrefix s)) (listed 2 (whole s))) ≡ refusal 4 p → whole s ≡ deep p
+    go true u q = absurd (let w : _≡_ {A = ℕ} 2 4 = cc in omega arith)
+    go false true q = absurd (let w : _≡_ {A = ℕ} 3 4 = cc in omega arith)
+    go false false q = deeper (whole s) q

@@ -11,9 +11,12 @@ use lib.Dec.{eqb}
 use borrow.Author.Tests.{eqb-true, eqb-false, eq-eqb, ne-eqb}
 use Rattle.fields.specs.Number.{number, length-number, number-two}
 use Rattle.fields.specs.Field.{field}
-use Rattle.lexer.specs.Token.{Token, Tokens, leaf, char, group, none, more}
-use Rattle.lexer.specs.Listing.{pair, tokenBytes, tokensBytes}
-use Rattle.lexer.proofs.Facts.Tags.{Member, Part, Members, Parts}
+use Rattle.fields.specs.Outcome.{listing}
+use Rattle.lexer.specs.Token.{Token, Tokens, leaf, char, group, none, more, Expect, digit, ident, escape, unicode, any, closer, Error}
+use Rattle.lexer.specs.Listing.{pair, tokenBytes, tokensBytes, errorTag, opener, errorBytes, errorsBytes, edition}
+use Rattle.lexer.specs.Lexing.{lexing}
+use Rattle.lexer.proofs.Facts.Tags.{Member, Part, Members, Parts, finds-read, whole-tags}
+use Rattle.lexer.proofs.Facts.Listed.{accepted, faulty}
 
 -- how many are open behind a tag
 unfoldable pub opened : ℕ → ℕ → ℕ
@@ -115,6 +118,54 @@ module _ (w : ℕ) (small : w + w < 65536) where
   pub row-nests : (ts : Tokens) → Members ts → nests 0 0 (tokensBytes w ts) ≡ true
   unfolding nests
   row-nests ts m = let e : nests 0 0 (tokensBytes w ts ++ []) ≡ true = members-nests ts m 0 [] in rw append-nil at e
+
+-- ---- whole listings
+
+edition-nests : (rest : List ℕ) → nests 0 0 (edition ++ rest) ≡ nests 0 0 rest
+unfolding edition opened
+edition-nests rest = field-nests 0x00 (1 ∷ []) rest 0 (omega arith) refl
+
+-- the tags of errors neither open nor close
+errorTag-flat : (x : Expect) → Flat (errorTag x)
+unfolding errorTag
+errorTag-flat digit = omega arith
+errorTag-flat ident = omega arith
+errorTag-flat (closer b) = omega arith
+errorTag-flat escape = omega arith
+errorTag-flat unicode = omega arith
+errorTag-flat any = omega arith
+
+opener-size : (x : Expect) → length (opener x) ≤ 1
+unfolding opener
+opener-size digit = omega arith
+opener-size ident = omega arith
+opener-size (closer b) = omega arith
+opener-size escape = omega arith
+opener-size unicode = omega arith
+opener-size any = omega arith
+
+error-nests : (e : Error) (d : ℕ) (rest : List ℕ) → nests 0 d (errorBytes 2 e ++ rest) ≡ nests 0 d rest
+unfolding errorBytes
+error-nests e d rest =
+    let f = errorTag-flat (e .expect) in
+    field-nests (errorTag (e .expect)) _ rest d
+    (omega (arith, length-append (number 2 (e .place)) (opener (e .expect)), length-number 2 (e .place), opener-size (e .expect)))
+    (rw (ne-eqb (errorTag (e .expect)) 9 (f .2)))
+    ∙ rw (flat-opened (errorTag (e .expect)) d f)
+
+errors-nest : (es : List Error) → nests 0 0 (errorsBytes 2 es) ≡ true
+unfolding errorsBytes nests
+errors-nest [] = refl
+errors-nest (e ∷ es) = error-nests e 0 (errorsBytes 2 es) ∙ errors-nest es
+
+pub accepted-nests : (s bytes : List ℕ) → lexing s ≡ listing 0 bytes → nests 0 0 bytes ≡ true
+accepted-nests s bytes e =
+    let a = accepted s bytes e in
+    let m : Members (a .row) = finds-read Members (rw (a .found) at (whole-tags s)) in
+    rw (a .written) (edition-nests _ ∙ row-nests 2 (omega arith) (a .row) m)
+
+pub faulty-nests : (s bytes : List ℕ) → lexing s ≡ listing 1 bytes → nests 0 0 bytes ≡ true
+faulty-nests s bytes e = let a = faulty s bytes e in rw (a .written) (edition-nests _ ∙ errors-nest (a .error ∷ a .errors))
 
 -- `()`, and what does not nest: a 07 without its 09, a 09 without its 07, a 09 before its 07, a field cut off
 pub nests-examples :

@@ -3,6 +3,7 @@ use mathlib.Core.Path.{_≡_, refl}
 use mathlib.Core.List.{List, [], _∷_, _++_}
 use Prim.Native.Nat.{ℕ, suc, _+_, _≤_, _<_}
 use native.Mathlib.Omega.{arith}
+use Rattle.lexer.specs.Read.{Read, read, deep}
 use Rattle.lexer.specs.Token.{Token, Tokens, leaf, char, group, none, more, one, join, Error}
 
 -- the place behind a token; a character has no place of its own, so what follows it follows what was before
@@ -28,7 +29,12 @@ unfoldable pub Rising : List Error → ℕ → ℕ → Type 0
 Rising [] a b = a ≤ b
 Rising (e ∷ es) a b = (a ≤ e .place) × Rising es (e .place) b
 
--- ---- what follows from it
+-- where reading stands, or where it broke off
+abbrev pub stands : Read → ℕ
+stands (read b ts es) = b
+stands (deep p) = p
+
+-- ---- each of them
 
 -- a token has the start and the length
 pub data Placed : Token → ℕ → ℕ → Type 0 where

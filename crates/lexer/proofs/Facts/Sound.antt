@@ -18,7 +18,7 @@ use Rattle.lexer.specs.Escape.{named, hexDigit, hexes, surrogate, unicod
 use Rattle.lexer.specs.Read.{Read, read, deep, nothing, found, wrong, after, andThen, enclose}
 use Rattle.lexer.specs.Lex.{leafAt, closing, close, textByte, text, tokens, token, block, str, parts, escape, rest, whole}
 use Rattle.lexer.proofs.Facts.Onward.{Onward, stay, further, either, byte-in, byte-is, byte-passes, past-on, space-on}
-use Rattle.lexer.proofs.Facts.Shape.{Lies, Row, Rising}
+use Rattle.lexer.proofs.Facts.Shape.{Lies, Row, Rising, stands}
 use Rattle.lexer.proofs.Facts.Spans.{row-low, row-wide, row-join, rising-wide, rising-join, rising-one, rising-none}
 use Rattle.lexer.proofs.Facts.Scans.{Scanned, plain-on}
 
@@ -37,6 +37,10 @@ sound-read (reads r) = r
 
 pub sound-deep : {s : List ℕ} {at low p : ℕ} → Sound s at low (deep p) → Onward s at p
 sound-deep (stops o) = o
+
+pub sound-on : {q : Read} (s : List ℕ) (at low : ℕ) → Sound s at low q → Onward s at (stands q)
+sound-on s at low (reads {b} {ts} r) = record { low = row-low ts at b (r .tokens); high = r .on .high }
+sound-on s at low (stops o) = o
 
 -- ---- the ways in which reading is put together
 

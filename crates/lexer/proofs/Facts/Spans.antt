@@ -95,7 +95,12 @@ of-among : {t : Token} {ts : Tokens} → Of t ts → Among t ts
 of-among first = Among.here
 of-among (later m) = Among.further (of-among m)
 
--- "starts of neighbours": of two tokens in a row the one starts where the other has ended, or later
+pub before-among : {t u : Token} {ts : Tokens} → Before t u ts → Among t ts
+before-among (Before.here m) = Among.here
+before-among (Before.further m) = Among.further (before-among m)
+before-among (Before.inside m) = Among.inside (before-among m)
+
+-- of two tokens in a row the one starts where the other has ended, or later
 pub before-ends : {t u : Token} {ts : Tokens} {start size start′ size′ : ℕ} (a b : ℕ) → Before t u ts → Row ts a b → Placed t start size → Placed u start′ size′
     → start + size ≤ start′
 unfolding Lies
