@@ -1,4 +1,5 @@
--- What holds of the lexer's definitions, whatever code meets them.
+-- What holds of the lexer's definitions, whatever code meets them: `Promises` is the page to read.
+pub mod Cases
 pub mod Onward
 pub mod Shape
 pub mod Spans
@@ -7,9 +8,10 @@ pub mod Sound
 pub mod Fuel
 pub mod Blanks
 pub mod Free
+pub mod Kinds
 pub mod Tags
-pub mod Nesting
 pub mod Openers
-pub mod Listed
 pub mod Depth
+pub mod Listed
+pub mod Nesting
 pub mod Promises

@@ -13,8 +13,8 @@ use Rattle.text.specs.Utf8.{table, bits, seqLen, scalar}
 use Rattle.text.specs.Space.{spaces, whiteSpace}
 use Rattle.lexer.specs.Scan.{byte, run, past}
 use Rattle.lexer.specs.Space.{blank, inLine, lessCR, slashes, goesOn, nextLine, comment, skip, space}
-use Rattle.lexer.proofs.Facts.Onward.{Onward, either, byte-is, past-on, blank-fits, nextLine-on, comment-on, skip-on, space-on}
-use Rattle.lexer.proofs.Facts.Fuel.{cond-same}
+use Rattle.lexer.proofs.Facts.Cases.{either, alike}
+use Rattle.lexer.proofs.Facts.Onward.{Onward, byte-is, past-on, blank-fits, nextLine-on, comment-on, skip-on, space-on}
 
 -- the place behind a comment, of which a line starts at the given place
 unfoldable pub commentAt : List ℕ → ℕ → ℕ
@@ -47,7 +47,7 @@ unfolding comment
 comment-fuel zero l s at h p q = absurd (omega arith)
 comment-fuel (suc k) zero s at h p q = absurd (omega arith)
 comment-fuel (suc k) (suc l) s at h p q =
-    cond-same (goesOn s at (past inLine s at - at)) _ _ _ _
+    alike _≡_ (goesOn s at (past inLine s at - at)) _ _ _ _
     (λ e. let g : at < length s = goes-in s at e in
     let m : at < nextLine s at = nextLine-more s at g in
     comment-fuel k l s (nextLine s at) (nextLine-on s at h .high) (omega arith) (omega arith))
@@ -72,11 +72,11 @@ unfolding skip
 skip-fuel zero l s at h p q = absurd (omega arith)
 skip-fuel (suc k) zero s at h p q = absurd (omega arith)
 skip-fuel (suc k) (suc l) s at h p q =
-    cond-same (ltb 0 (blank s at)) _ _ _ _
+    alike _≡_ (ltb 0 (blank s at)) _ _ _ _
     (λ e. let g : 0 < blank s at = ltb-true 0 (blank s at) e in
     let f : at + blank s at ≤ length s = blank-fits s at h in
     skip-fuel k l s (at + blank s at) f (omega arith) (omega arith))
-    (λ e. cond-same (eqb (byte s at) 0x23) _ _ _ _
+    (λ e. alike _≡_ (eqb (byte s at) 0x23) _ _ _ _
     (λ f. let g : at < length s = byte-is s at 0x23 (omega arith) f in
     let o = comment-on (suc (length s)) s (at + 1) (omega arith) in
     skip-fuel k l s _ (o .high) (omega (arith, o .low)) (omega (arith, o .low)))

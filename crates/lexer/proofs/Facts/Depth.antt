@@ -16,7 +16,7 @@ use Rattle.lexer.specs.Kind.{kind}
 use Rattle.lexer.specs.Escape.{named, hexDigit, hexes, surrogate, unicode, simple}
 use Rattle.lexer.specs.Read.{Read, read, deep, after, andThen, enclose}
 use Rattle.lexer.specs.Lex.{leafAt, closing, close, textByte, text, tokens, token, block, str, parts, escape, rest, whole}
-use Rattle.lexer.proofs.Facts.Onward.{either}
+use Rattle.lexer.proofs.Facts.Cases.{either, alike}
 use Rattle.lexer.proofs.Facts.Free.{tokensAt}
 use Rattle.lexer.proofs.Facts.Openers.{Breaks, breaks-not, tokens-breaks}
 
@@ -93,10 +93,6 @@ unfolding enclose over orElse
 enclose-first (read b ts es) tag at = first refl
 enclose-first (deep p) tag at = both
 
-cond-both : {A : Type 0} (R : A → A → Type 0) (t : Bool) (x x′ y y′ : A) → (t ≡ true → R x x′) → (t ≡ false → R y y′) → R (cond t x y) (cond t x′ y′)
-cond-both R true x x′ y y′ f g = f refl
-cond-both R false x x′ y y′ f g = g refl
-
 -- ---- what nests nothing
 
 -- nothing was found that nests
@@ -136,14 +132,14 @@ mutual
   tokens-narrow zero s m n at h = both
   tokens-narrow (suc k) s m n at h =
       let a = space s at in
-      cond-both (Narrow n) (eqb (kind (byte s a)) 0) _ _ _ _ (λ e. same refl)
+      alike (Narrow n) (eqb (kind (byte s a)) 0) _ _ _ _ (λ e. same refl)
       (λ e. then-narrow n _ _ (token-narrow k s m n a h) (λ b. tokens-narrow k s m n b h))
 
   pub token-narrow : (k : ℕ) (s : List ℕ) (m n at : ℕ) → n ≤ m → Narrow n (token k s m at) (token k s n at)
   token-narrow zero s m n at h = both
   token-narrow (suc k) s m n at h =
-      cond-both (Narrow n) (eqb (kind (byte s at)) 0x06) _ _ _ _ (λ e. str-narrow k s m n at h)
-      (λ e. cond-both (Narrow n) (eqb (kind (byte s at)) 0x07) _ _ _ _ (λ f. block-narrow k s m n at h) (λ f. leaf-level (kind (byte s at)) n s at))
+      alike (Narrow n) (eqb (kind (byte s at)) 0x06) _ _ _ _ (λ e. str-narrow k s m n at h)
+      (λ e. alike (Narrow n) (eqb (kind (byte s at)) 0x07) _ _ _ _ (λ f. block-narrow k s m n at h) (λ f. leaf-level (kind (byte s at)) n s at))
 
   pub block-narrow : (k : ℕ) (s : List ℕ) (m n at : ℕ) → n ≤ m → Narrow n (block k s m at) (block k s n at)
   block-narrow zero s m n at h = both
@@ -169,14 +165,14 @@ mutual
   parts-narrow (suc k) s m n at h =
       let a = past textByte s at in
       after-narrow n (text at a) [] (text-over at a n)
-      (cond-both (Narrow n) (eqb (byte s a) 0x22) _ _ _ _ (λ e. same refl)
-      (λ e. cond-both (Narrow n) (eqb (byte s a) 0x5C) _ _ _ _
+      (alike (Narrow n) (eqb (byte s a) 0x22) _ _ _ _ (λ e. same refl)
+      (λ e. alike (Narrow n) (eqb (byte s a) 0x5C) _ _ _ _
       (λ f. then-narrow n _ _ (escape-narrow k s m n (a + 1) h) (λ b. parts-narrow k s m n b h))
       (λ f. same refl)))
 
   pub escape-narrow : (k : ℕ) (s : List ℕ) (m n at : ℕ) → n ≤ m → Narrow n (escape k s m at) (escape k s n at)
   escape-narrow zero s m n at h = both
-  escape-narrow (suc k) s m n at h = cond-both (Narrow n) (eqb (byte s at) 0x28) _ _ _ _ (λ e. block-narrow k s m n at h) (λ e. simple-level n s at)
+  escape-narrow (suc k) s m n at h = alike (Narrow n) (eqb (byte s at) 0x28) _ _ _ _ (λ e. block-narrow k s m n at h) (λ e. simple-level n s at)
 
 -- ---- in words of the results
 

@@ -17,7 +17,8 @@ use Rattle.lexer.specs.Kind.{kind}
 use Rattle.lexer.specs.Escape.{simple}
 use Rattle.lexer.specs.Read.{Read, read, deep, nothing, found, wrong, after, andThen, enclose}
 use Rattle.lexer.specs.Lex.{leafAt, closing, close, textByte, text, tokens, token, block, str, parts, escape, rest, whole}
-use Rattle.lexer.proofs.Facts.Onward.{Onward, either, byte-is, past-on, space-on}
+use Rattle.lexer.proofs.Facts.Cases.{either}
+use Rattle.lexer.proofs.Facts.Onward.{Onward, byte-is, past-on, space-on}
 use Rattle.lexer.proofs.Facts.Sound.{Sound, kind-in, tokens-sound, token-sound, escape-sound}
 use Rattle.lexer.proofs.Facts.Fuel.{then-same, tokens-fuel, token-fuel, block-fuel, str-fuel, parts-fuel, escape-fuel}
 

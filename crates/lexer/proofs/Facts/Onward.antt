@@ -17,6 +17,7 @@ use Rattle.lexer.specs.Scan.{byte, oneOf, run, past}
 use Rattle.lexer.specs.Space.{blank, inLine, goesOn, nextLine, comment, skip, space}
 use Rattle.lexer.specs.Word.{letter, wordByte, ident0, identEnd, sigil}
 use Rattle.lexer.specs.Num.{sign}
+use Rattle.lexer.proofs.Facts.Cases.{either, both-right}
 use Rattle.lexer.specs.Sym.{operator, follows, dot, sym as symbol}
 
 -- from a place on to a place that is not before it, within the source
@@ -40,21 +41,6 @@ stay s at h = record { low = omega arith; high = h }
 
 pub further : (s : List ℕ) (at b c : ℕ) → Onward s at b → Onward s b c → Onward s at c
 further s at b c o p = record { low = omega (arith, o .low, p .low); high = p .high }
-
--- ---- cases
-
--- what holds of both arms
-pub either : {A : Type 0} (P : A → Type 0) (t : Bool) (x y : A) → (t ≡ true → P x) → (t ≡ false → P y) → P (cond t x y)
-either P true x y f g = f refl
-either P false x y f g = g refl
-
-pub both-left : (a b : Bool) → a && b ≡ true → a ≡ true
-both-left true b e = refl
-both-left false b e = e
-
-pub both-right : (a b : Bool) → a && b ≡ true → b ≡ true
-both-right true b e = e
-both-right false b e = absurd (let z : _≡_ {A = ℕ} 0 1 = cc in omega arith)
 
 -- ---- the byte at a place
 

@@ -12,7 +12,8 @@ use Rattle.lexer.specs.Word.{digit, ident0, identEnd, ident1, sigil, mod
 use Rattle.lexer.specs.Num.{digits1, fraction, sign, exponent, num}
 use Rattle.lexer.specs.Sym.{sym as symbol}
 use Rattle.lexer.specs.Kind.{plain}
-use Rattle.lexer.proofs.Facts.Onward.{Onward, stay, further, either, both-left, both-right, byte-is, byte-passes, past-on, ident0-on, identEnd-on, sigil-on, sign-on, symbol-on}
+use Rattle.lexer.proofs.Facts.Cases.{either, both-left, both-right}
+use Rattle.lexer.proofs.Facts.Onward.{Onward, stay, further, byte-is, byte-passes, past-on, ident0-on, identEnd-on, sigil-on, sign-on, symbol-on}
 use Rattle.lexer.proofs.Facts.Shape.{Rising}
 use Rattle.lexer.proofs.Facts.Spans.{rising-wide, rising-join, rising-one, rising-none}
 

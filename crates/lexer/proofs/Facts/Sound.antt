@@ -17,7 +17,8 @@ use Rattle.lexer.specs.Kind.{kind, plain}
 use Rattle.lexer.specs.Escape.{named, hexDigit, hexes, surrogate, unicode, simple}
 use Rattle.lexer.specs.Read.{Read, read, deep, nothing, found, wrong, after, andThen, enclose}
 use Rattle.lexer.specs.Lex.{leafAt, closing, close, textByte, text, tokens, token, block, str, parts, escape, rest, whole}
-use Rattle.lexer.proofs.Facts.Onward.{Onward, stay, further, either, byte-in, byte-is, byte-passes, past-on, space-on}
+use Rattle.lexer.proofs.Facts.Cases.{either}
+use Rattle.lexer.proofs.Facts.Onward.{Onward, stay, further, byte-in, byte-is, byte-passes, past-on, space-on}
 use Rattle.lexer.proofs.Facts.Shape.{Lies, Row, Rising, stands}
 use Rattle.lexer.proofs.Facts.Spans.{row-low, row-wide, row-join, rising-wide, rising-join, rising-one, rising-none}
 use Rattle.lexer.proofs.Facts.Scans.{Scanned, plain-on}

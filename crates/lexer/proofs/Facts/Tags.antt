@@ -18,7 +18,7 @@ use Rattle.lexer.specs.Kind.{kind, plain}
 use Rattle.lexer.specs.Escape.{named, hexDigit, hexes, surrogate, unicode, simple}
 use Rattle.lexer.specs.Read.{Read, read, deep, nothing, found, wrong, after, andThen, enclose}
 use Rattle.lexer.specs.Lex.{leafAt, closing, close, textByte, text, tokens, token, block, str, parts, escape, rest, whole}
-use Rattle.lexer.proofs.Facts.Onward.{either}
+use Rattle.lexer.proofs.Facts.Cases.{either}
 
 -- a token at the top or in a block: Word, Var, Fmt, Num or Sym, a string of parts, a block of such tokens. A part of a string: a text part, a character, a block
 unfoldable mutual
