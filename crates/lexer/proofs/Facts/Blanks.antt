@@ -1,20 +1,20 @@
 -- Space and comments, free of the numbers that bound their turns: what is skipped does not depend on them. Assumes nothing.
-use mathlib.Core.Path.{_≡_, refl, sym, ap, _∙_}
-use mathlib.Core.Bool.{Bool, true, false, cond}
-use mathlib.Core.List.{List, [], _∷_}
-use Prim.Native.Nat.{ℕ, zero, suc, _+_, _-_, _≤_, _<_, min}
+use mathlib.Core.Path.{_≡_, refl, _∙_}
+use mathlib.Core.Bool.{Bool, true, false}
+use mathlib.Core.List.{List}
+use Prim.Native.Nat.{ℕ, zero, suc, _+_, _-_, _≤_, _<_}
 use native.Mathlib.Omega.{arith}
 use native.Mathlib.Decide.{decLt}
-use lib.ListN.{length, drop, getD, List·getD-eq-default, drop-of-length-le}
+use lib.ListN.{length, drop-of-length-le}
 use lib.Seq.{drop-cons}
 use lib.Dec.{eqb, ltb}
-use borrow.Author.Tests.{eqb-true, eqb-false, eq-eqb, ne-eqb, ltb-true, ltb-false, lt-ltb, le-ltb}
+use borrow.Author.Tests.{eqb-false, eq-eqb, ne-eqb, ltb-true, ltb-false, lt-ltb}
 use Rattle.text.specs.Utf8.{table, bits, seqLen, scalar}
 use Rattle.text.specs.Space.{spaces, whiteSpace}
 use Rattle.lexer.specs.Scan.{byte, run, past}
 use Rattle.lexer.specs.Space.{blank, inLine, lessCR, slashes, goesOn, nextLine, comment, skip, space}
 use Rattle.lexer.proofs.Facts.Cases.{either, alike}
-use Rattle.lexer.proofs.Facts.Onward.{Onward, byte-is, past-on, blank-fits, nextLine-on, comment-on, skip-on, space-on}
+use Rattle.lexer.proofs.Facts.Onward.{byte-is, past-on, blank-fits, nextLine-on, comment-on}
 
 -- the place behind a comment, of which a line starts at the given place
 unfoldable pub commentAt : List ℕ → ℕ → ℕ

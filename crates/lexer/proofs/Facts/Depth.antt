@@ -1,21 +1,19 @@
 -- "nesting over 128 in source; place: first opener that makes 129 open .. Source nesting counts open blocks and strings": how many may be opened decides only
 -- whether reading breaks off, and where. Assumes nothing.
 use mathlib.Core.Path.{_≡_, refl, sym, ap, _∙_}
-use mathlib.Core.Bool.{Bool, true, false, cond}
-use mathlib.Core.List.{List, [], _∷_, _++_}
+use mathlib.Core.List.{List, []}
 use mathlib.Core.Option.{Option, some, orElse}
-use Prim.Native.Nat.{ℕ, zero, suc, _+_, _-_, _*_, _≤_, _<_}
+use Prim.Native.Nat.{ℕ, zero, suc, _+_, _-_, _*_, _≤_}
 use native.Mathlib.Omega.{arith}
 use lib.ListN.{length}
 use lib.Dec.{eqb, ltb, eqb·suc-zero}
-use borrow.Author.Tests.{eqb-true, eqb-false}
-use Rattle.lexer.specs.Token.{Token, Tokens, leaf, char, group, none, more, one, join, Error}
+use Rattle.lexer.specs.Token.{Token, Tokens, leaf, char, group, none, more, join, Error}
 use Rattle.lexer.specs.Scan.{byte, past}
 use Rattle.lexer.specs.Space.{space}
 use Rattle.lexer.specs.Kind.{kind}
 use Rattle.lexer.specs.Escape.{named, hexDigit, hexes, surrogate, unicode, simple}
 use Rattle.lexer.specs.Read.{Read, read, deep, after, andThen, enclose}
-use Rattle.lexer.specs.Lex.{leafAt, closing, close, textByte, text, tokens, token, block, str, parts, escape, rest, whole}
+use Rattle.lexer.specs.Lex.{leafAt, closing, close, textByte, text, tokens, token, block, str, parts, escape}
 use Rattle.lexer.proofs.Facts.Cases.{either, alike}
 use Rattle.lexer.proofs.Facts.Free.{tokensAt}
 use Rattle.lexer.proofs.Facts.Openers.{Breaks, breaks-not, tokens-breaks}

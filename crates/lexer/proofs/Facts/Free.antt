@@ -1,26 +1,26 @@
 -- The cycle free of its fuel: each member with as much as is enough for any place of the source, and the equations that a reader expects of it, in the
 -- words of document 01. Assumes nothing.
-use mathlib.Core.Path.{_≡_, refl, sym, ap, _∙_}
+use mathlib.Core.Path.{_≡_, refl, ap, _∙_}
 use mathlib.Core.Bool.{Bool, true, false, cond}
 use mathlib.Core.List.{List, [], _∷_, _++_, append-nil}
 use mathlib.Core.Logic.{_⊎_, inl, inr, ⊎-elim}
-use Prim.Native.Nat.{ℕ, zero, suc, _+_, _-_, _*_, _≤_, _<_}
+use Prim.Native.Nat.{ℕ, suc, _+_, _-_, _*_, _≤_, _<_}
 use native.Mathlib.Omega.{arith}
 use lib.ListN.{length, drop, getD, length-drop, List·getD-eq-default}
 use lib.Seq.{getD-drop}
 use lib.Dec.{eqb, ltb, eqb·suc-zero}
-use borrow.Author.Tests.{eqb-true, eqb-false, eq-eqb, ne-eqb, lt-ltb, le-ltb, not-false}
-use Rattle.lexer.specs.Token.{Tokens, leaf, none, more, one, join, Expect, closer, Error, missing}
-use Rattle.lexer.specs.Scan.{byte, oneOf, run, past}
+use borrow.Author.Tests.{eqb-true, eq-eqb, ne-eqb, lt-ltb, le-ltb, not-false}
+use Rattle.lexer.specs.Token.{Tokens, leaf, none, more, join, Expect, closer, Error, missing}
+use Rattle.lexer.specs.Scan.{byte, run, past}
 use Rattle.lexer.specs.Space.{space}
 use Rattle.lexer.specs.Kind.{kind}
 use Rattle.lexer.specs.Escape.{simple}
 use Rattle.lexer.specs.Read.{Read, read, deep, nothing, found, wrong, after, andThen, enclose}
 use Rattle.lexer.specs.Lex.{leafAt, closing, close, textByte, text, tokens, token, block, str, parts, escape, rest, whole}
 use Rattle.lexer.proofs.Facts.Cases.{either}
-use Rattle.lexer.proofs.Facts.Onward.{Onward, byte-is, past-on, space-on}
-use Rattle.lexer.proofs.Facts.Sound.{Sound, kind-in, tokens-sound, token-sound, escape-sound}
-use Rattle.lexer.proofs.Facts.Fuel.{then-same, tokens-fuel, token-fuel, block-fuel, str-fuel, parts-fuel, escape-fuel}
+use Rattle.lexer.proofs.Facts.Onward.{byte-is}
+use Rattle.lexer.proofs.Facts.Sound.{kind-in}
+use Rattle.lexer.proofs.Facts.Fuel.{tokens-fuel, token-fuel, block-fuel, str-fuel, parts-fuel, escape-fuel}
 
 join-none : (ts : Tokens) → join ts none ≡ ts
 unfolding join
@@ -64,23 +64,26 @@ module _ (s : List ℕ) (n at : ℕ) where
   tokens-more h e =
       tokens-fuel (enough s) (suc (enough s)) s n at h (omega arith) (omega arith) ∙ rw (ne-eqb (kind (byte s (space s at))) 0 e)
 
-  pub token-string : at < length s → kind (byte s at) ≡ 0x06 → tokenAt s n at ≡ strAt s n at
+  pub token-string : kind (byte s at) ≡ 0x06 → tokenAt s n at ≡ strAt s n at
   unfolding tokens tokenAt strAt
-  token-string h e =
+  token-string e =
+      let h : at < length s = kind-in s at (omega arith) in
       token-fuel (enough s) (suc (enough s)) s n at h (omega arith) (omega arith) ∙ rw e
 
-  pub token-block : at < length s → kind (byte s at) ≡ 0x07 → tokenAt s n at ≡ blockAt s n at
+  pub token-block : kind (byte s at) ≡ 0x07 → tokenAt s n at ≡ blockAt s n at
   unfolding tokens tokenAt blockAt
-  token-block h e =
+  token-block e =
+      let h : at < length s = kind-in s at (omega arith) in
       token-fuel (enough s) (suc (enough s)) s n at h (omega arith) (omega arith) ∙ rw e
 
   -- a Word, Var, Fmt, Num or Sym
-  pub token-plain : at < length s → kind (byte s at) ≤ 5 → tokenAt s n at ≡ leafAt (kind (byte s at)) s at
+  pub token-plain : (tag : ℕ) → 1 ≤ tag → tag ≤ 5 → kind (byte s at) ≡ tag → tokenAt s n at ≡ leafAt tag s at
   unfolding tokens tokenAt
-  token-plain h e =
-      let f : kind (byte s at) ≡ 0x06 → ⊥ = omega arith in
-      let g : kind (byte s at) ≡ 0x07 → ⊥ = omega arith in
-      token-fuel (enough s) (suc (enough s)) s n at h (omega arith) (omega arith) ∙ rw (ne-eqb (kind (byte s at)) 0x06 f, ne-eqb (kind (byte s at)) 0x07 g)
+  token-plain tag low high e =
+      let h : at < length s = kind-in s at (omega arith) in
+      let f : tag ≡ 0x06 → ⊥ = omega arith in
+      let g : tag ≡ 0x07 → ⊥ = omega arith in
+      token-fuel (enough s) (suc (enough s)) s n at h (omega arith) (omega arith) ∙ rw (e, ne-eqb tag 0x06 f, ne-eqb tag 0x07 g)
 
   -- ".. `\(` block"
   pub escape-block : byte s at ≡ 0x28 → escapeAt s n at ≡ blockAt s n at

@@ -1,21 +1,20 @@
 -- "The first number only bounds the depth of the recursion: three for each byte that is left, and three more, are enough, and what is found does not depend
 -- on it." Assumes nothing.
 use mathlib.Core.Path.{_≡_, refl, ap, _∙_}
-use mathlib.Core.Bool.{Bool, true, false, cond}
-use mathlib.Core.List.{List, [], _∷_, _++_}
+use mathlib.Core.List.{List, []}
 use Prim.Native.Nat.{ℕ, zero, suc, _+_, _-_, _*_, _≤_, _<_}
 use native.Mathlib.Omega.{arith}
 use lib.ListN.{length}
-use lib.Dec.{eqb, ltb}
-use borrow.Author.Tests.{eqb-true, eqb-false, ltb-true, ltb-false}
+use lib.Dec.{eqb}
+use borrow.Author.Tests.{eqb-false}
 use Rattle.lexer.specs.Scan.{byte, past}
 use Rattle.lexer.specs.Space.{space}
 use Rattle.lexer.specs.Kind.{kind}
-use Rattle.lexer.specs.Read.{Read, read, deep, after, andThen, enclose}
+use Rattle.lexer.specs.Read.{Read, after, andThen, enclose}
 use Rattle.lexer.specs.Lex.{close, textByte, text, tokens, token, block, str, parts, escape}
 use Rattle.lexer.proofs.Facts.Cases.{alike}
 use Rattle.lexer.proofs.Facts.Onward.{Onward, byte-is, past-on, space-on}
-use Rattle.lexer.proofs.Facts.Sound.{Sound, reads, stops, kind-in, tokens-sound, token-sound, escape-sound}
+use Rattle.lexer.proofs.Facts.Sound.{Sound, reads, stops, kind-in, token-sound, escape-sound}
 
 then-go : {q : Read} (s : List ℕ) (at low : ℕ) (f g : ℕ → Read) → Sound s at low q → ((b : ℕ) → Onward s low b → f b ≡ g b) → andThen q f ≡ andThen q g
 unfolding andThen

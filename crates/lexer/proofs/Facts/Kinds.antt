@@ -1,11 +1,10 @@
 -- The token that a byte starts, by the byte, and the escapes: document 01's classes as equations. Assumes nothing.
-use mathlib.Core.Path.{_≡_, refl, ap, subst, _∙_}
-use mathlib.Core.Bool.{Bool, true, false, cond, _&&_, _||_}
+use mathlib.Core.Path.{_≡_, refl}
+use mathlib.Core.Bool.{Bool, true, false, cond, _&&_}
 use mathlib.Core.List.{List, [], _∷_}
-use Prim.Native.Nat.{ℕ, zero, suc, _+_, _≤_, _<_}
+use Prim.Native.Nat.{ℕ, _+_, _≤_, _<_}
 use native.Mathlib.Omega.{arith}
-use lib.ListN.{length}
-use lib.Dec.{eqb, leb, ltb}
+use lib.Dec.{eqb, leb}
 use borrow.Author.Tests.{eqb-true, ne-eqb, eq-eqb, leb-true, lt-leb, lt-ltb, le-ltb}
 use Rattle.lexer.specs.Token.{char, Expect}
 use Rattle.lexer.specs.Scan.{byte, oneOf, past}
@@ -13,7 +12,7 @@ use Rattle.lexer.specs.Word.{letter, digit}
 use Rattle.lexer.specs.Sym.{operator}
 use Rattle.lexer.specs.Kind.{kind}
 use Rattle.lexer.specs.Escape.{named, hexDigit, hexes, surrogate, unicode, simple}
-use Rattle.lexer.specs.Read.{Read, found, wrong}
+use Rattle.lexer.specs.Read.{found, wrong}
 use Rattle.lexer.proofs.Facts.Cases.{both-left, both-right, or-left}
 
 -- the property holds of each

@@ -2,7 +2,7 @@
 use mathlib.Core.Path.{_≡_, refl, sym, ap, _∙_}
 use mathlib.Core.Bool.{Bool, true, false, cond}
 use mathlib.Core.List.{List, [], _∷_, _++_}
-use Prim.Native.Nat.{ℕ, zero, suc, _+_, _-_, _*_, _≤_, _<_}
+use Prim.Native.Nat.{ℕ, _+_, _*_, _≤_, _<_}
 use native.Mathlib.Omega.{arith}
 use native.Mathlib.Decide.{decLt}
 use lib.ListN.{length}
@@ -10,10 +10,10 @@ use lib.Dec.{ltb}
 use borrow.Author.Tests.{ltb-true, ltb-false}
 use Rattle.text.specs.Valid.{validPrefix}
 use Rattle.fields.specs.Outcome.{Outcome, listing, refusal}
-use Rattle.lexer.specs.Token.{Tokens, none, join, Expect, Error, missing}
+use Rattle.lexer.specs.Token.{Tokens, Expect, Error, missing}
 use Rattle.lexer.specs.Space.{space}
-use Rattle.lexer.specs.Read.{Read, read, deep, after, andThen}
-use Rattle.lexer.specs.Lex.{tokens, rest, whole}
+use Rattle.lexer.specs.Read.{Read, read, deep}
+use Rattle.lexer.specs.Lex.{whole}
 use Rattle.lexer.specs.Listing.{edition, tokensBytes, errorsBytes}
 use Rattle.lexer.specs.Lexing.{listed, lexing}
 use Rattle.lexer.proofs.Facts.Onward.{Onward, space-on}

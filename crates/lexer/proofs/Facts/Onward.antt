@@ -1,15 +1,15 @@
 -- "In a lexer's state the remaining input `i` is always a suffix of the source.": reading goes from a place to a place that is not before it and not past
 -- the end. Here for space, the parts of words, numbers and symbols. Assumes nothing.
 use mathlib.Core.Path.{_≡_, refl, sym, ap, _∙_}
-use mathlib.Core.Bool.{Bool, true, false, cond, _&&_}
+use mathlib.Core.Bool.{Bool, true, false, cond}
 use mathlib.Core.List.{List, [], _∷_, _++_}
-use Prim.Native.Nat.{ℕ, zero, suc, _+_, _-_, _≤_, _<_, min}
+use Prim.Native.Nat.{ℕ, zero, suc, _+_, _-_, _≤_, _<_}
 use native.Mathlib.Omega.{arith}
 use native.Mathlib.Decide.{decLt}
-use lib.ListN.{length, take, drop, getD, length-drop, take-append-drop, List·getD-eq-default}
+use lib.ListN.{length, take, drop, length-drop, take-append-drop, List·getD-eq-default}
 use lib.Seq.{drop-drop}
 use lib.Dec.{eqb, ltb}
-use borrow.Author.Tests.{eqb-true, eqb-false, ltb-true}
+use borrow.Author.Tests.{eqb-true}
 use Rattle.text.specs.Ranges.{Range, starts, within}
 use Rattle.text.specs.Utf8.{Row, table, lenIn, seqLen, scalar}
 use Rattle.text.specs.Space.{whiteSpace}

@@ -1,7 +1,6 @@
 -- "nesting over 128 in source; place: first opener that makes 129 open": with fuel enough, reading breaks off at an opener only, and only where fewer may be
 -- opened than there are bytes. Assumes nothing.
-use mathlib.Core.Path.{_≡_, refl}
-use mathlib.Core.Bool.{Bool, true, false}
+use mathlib.Core.Path.{_≡_}
 use mathlib.Core.List.{List, []}
 use mathlib.Core.Logic.{_⊎_, inl, inr}
 use Prim.Native.Nat.{ℕ, zero, suc, _+_, _-_, _*_, _≤_, _<_}

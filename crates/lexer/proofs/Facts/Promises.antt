@@ -10,15 +10,15 @@ use native.Mathlib.Omega.{arith}
 use lib.ListN.{length, drop}
 use Rattle.fields.specs.Number.{number, value, value-number}
 use Rattle.fields.specs.Outcome.{listing, refusal}
-use Rattle.lexer.specs.Token.{Token, Tokens, leaf, group, Expect, closer, Error, missing}
-use Rattle.lexer.specs.Scan.{byte, past}
+use Rattle.lexer.specs.Token.{Token, Tokens, leaf, char, group, Expect, closer, Error, missing}
+use Rattle.lexer.specs.Scan.{byte, oneOf, past}
 use Rattle.lexer.specs.Space.{blank, inLine, goesOn, nextLine, space}
-use Rattle.lexer.specs.Word.{ident0, identEnd, ident1, modThenIdent}
+use Rattle.lexer.specs.Word.{letter, digit, ident0, identEnd, ident1, modThenIdent}
 use Rattle.lexer.specs.Num.{num}
-use Rattle.lexer.specs.Sym.{sym}
+use Rattle.lexer.specs.Sym.{operator, sym}
 use Rattle.lexer.specs.Kind.{kind, plain}
-use Rattle.lexer.specs.Escape.{simple}
-use Rattle.lexer.specs.Read.{Read, read, deep, nothing, found, wrong, after, andThen, enclose}
+use Rattle.lexer.specs.Escape.{named, hexDigit, hexes, surrogate, unicode, simple}
+use Rattle.lexer.specs.Read.{read, deep, nothing, found, wrong, after, andThen, enclose}
 use Rattle.lexer.specs.Lex.{leafAt, closing, close, textByte, text, tokens, token, block, str, parts, escape, whole}
 use Rattle.lexer.specs.Listing.{tokensBytes}
 use Rattle.lexer.specs.Lexing.{lexing}
@@ -28,11 +28,13 @@ use Rattle.lexer.proofs.Facts.Shape.{Row, Rising, Placed, Among, Before
 use Rattle.lexer.proofs.Facts.Spans as spans
 use Rattle.lexer.proofs.Facts.Scans as scans
 use Rattle.lexer.proofs.Facts.Sound as sound
+use Rattle.lexer.proofs.Facts.Sound.{Span}
 use Rattle.lexer.proofs.Facts.Fuel as fuel
 use Rattle.lexer.proofs.Facts.Blanks as blanks
 use Rattle.lexer.proofs.Facts.Blanks.{commentAt}
 use Rattle.lexer.proofs.Facts.Free as free
 use Rattle.lexer.proofs.Facts.Free.{tokensAt, tokenAt, blockAt, strAt, partsAt, escapeAt}
+use Rattle.lexer.proofs.Facts.Kinds as kinds
 use Rattle.lexer.proofs.Facts.Tags as tags
 use Rattle.lexer.proofs.Facts.Tags.{Members}
 use Rattle.lexer.proofs.Facts.Nesting as nesting
@@ -114,6 +116,11 @@ whole-onward s = sound.sound-on s 0 0 (sound.whole-sound s)
 -- "After the top tokens and space, any rest is one Token error at its start.": without an error all was read
 pub whole-read : (s : List ℕ) (b : ℕ) (ts : Tokens) → whole s ≡ read b ts [] → b ≡ length s
 whole-read s b ts e = outcomes.all-read s b ts e
+
+-- What is read from a place on, for every fuel k and however many, n, may be opened: its tokens stand in a row between the place where it starts and the
+-- place where it ends, and so do its errors.
+pub tokens-span : (k : ℕ) (s : List ℕ) (n at b : ℕ) (ts : Tokens) (es : List Error) → at ≤ length s → tokens k s n at ≡ read b ts es → Span s at at b ts es
+tokens-span k s n at b ts es h e = sound.sound-read (rw e at (sound.tokens-sound k s n at h))
 
 module _ (s : List ℕ) (b : ℕ) (ts : Tokens) (es : List Error) (found : whole s ≡ read b ts es) where
   -- ---- 2. "each with start and length": every start and length lies inside the source
@@ -265,15 +272,36 @@ module _ (s : List ℕ) (n at : ℕ) where
   pub tokens-more : at ≤ length s → (kind (byte s (space s at)) ≡ 0 → ⊥) → tokensAt s n at ≡ andThen (tokenAt s n (space s at)) (tokensAt s n)
   tokens-more h e = free.tokens-more s n at h e
 
-  -- a Word, Var, Fmt, Num or Sym; a string; a block
-  pub token-plain : at < length s → kind (byte s at) ≤ 5 → tokenAt s n at ≡ leafAt (kind (byte s at)) s at
-  token-plain h e = free.token-plain s n at h e
+  pub tokens-closer : at ≤ length s → oneOf (0x29 ∷ 0x5D ∷ 0x7D ∷ []) (byte s (space s at)) ≡ true → tokensAt s n at ≡ nothing (space s at)
+  tokens-closer h e = free.tokens-none s n at h (kinds.closer-kind (byte s (space s at)) e)
 
-  pub token-string : at < length s → kind (byte s at) ≡ 0x06 → tokenAt s n at ≡ strAt s n at
-  token-string h e = free.token-string s n at h e
+  -- "Word: `[a-zA-Z_][a-zA-Z0-9_]*` .."
+  pub token-word : letter (byte s at) ≡ true → tokenAt s n at ≡ leafAt 0x01 s at
+  token-word e = free.token-plain s n at 0x01 (omega arith) (omega arith) (kinds.word-kind (byte s at) e)
 
-  pub token-block : at < length s → kind (byte s at) ≡ 0x07 → tokenAt s n at ≡ blockAt s n at
-  token-block h e = free.token-block s n at h e
+  -- "Var and Fmt: `$` or `@`, then an identifier .."
+  pub token-var : byte s at ≡ 0x24 → tokenAt s n at ≡ leafAt 0x02 s at
+  token-var e = free.token-plain s n at 0x02 (omega arith) (omega arith) (kinds.var-kind (byte s at) e)
+
+  pub token-fmt : byte s at ≡ 0x40 → tokenAt s n at ≡ leafAt 0x03 s at
+  token-fmt e = free.token-plain s n at 0x03 (omega arith) (omega arith) (kinds.fmt-kind (byte s at) e)
+
+  -- "Num: digits .."
+  pub token-num : digit (byte s at) ≡ true → tokenAt s n at ≡ leafAt 0x04 s at
+  token-num e = free.token-plain s n at 0x04 (omega arith) (omega arith) (kinds.num-kind (byte s at) e)
+
+  -- "Sym: one of `|=!<>+-*/%` ..; `..`; `.` with an identifier; lone `.`; each of `: ; , ?`."
+  pub token-operator : operator (byte s at) ≡ true → tokenAt s n at ≡ leafAt 0x05 s at
+  token-operator e = free.token-plain s n at 0x05 (omega arith) (omega arith) (kinds.operator-kind (byte s at) e)
+
+  pub token-mark : oneOf (0x2E ∷ 0x3A ∷ 0x3B ∷ 0x2C ∷ 0x3F ∷ []) (byte s at) ≡ true → tokenAt s n at ≡ leafAt 0x05 s at
+  token-mark e = free.token-plain s n at 0x05 (omega arith) (omega arith) (kinds.mark-kind (byte s at) e)
+
+  pub token-string : byte s at ≡ 0x22 → tokenAt s n at ≡ strAt s n at
+  token-string e = free.token-string s n at (kinds.string-kind (byte s at) e)
+
+  pub token-block : oneOf (0x28 ∷ 0x5B ∷ 0x7B ∷ []) (byte s at) ≡ true → tokenAt s n at ≡ blockAt s n at
+  token-block e = free.token-block s n at (kinds.opener-kind (byte s at) e)
 
   -- "Block: opener, tokens, space, matching closer ..", and one more is open inside it
   pub block-opens : at < length s → blockAt s (suc n) at ≡ enclose 0x07 at (andThen (tokensAt s n (at + 1)) (λ b. close (byte s at) s (space s b)))
@@ -317,6 +345,28 @@ module _ (s : List ℕ) (n at : ℕ) where
 
   pub escape-simple : at ≤ length s → (byte s at ≡ 0x28 → ⊥) → escapeAt s n at ≡ simple s at
   escape-simple h e = free.escape-simple s n at h e
+
+  -- "escapes `\\ \/ \" \b \f \n \r \t`"
+  pub simple-named : (byte s at ≡ 0x75 → ⊥) → (named (byte s at) ≡ 0 → ⊥) → simple s at ≡ found (char (named (byte s at))) (at + 1)
+  simple-named e f = kinds.simple-named s at e f
+
+  -- "An unknown or missing escape is Escape after the backslash, consuming nothing more."
+  pub simple-unknown : (byte s at ≡ 0x75 → ⊥) → named (byte s at) ≡ 0 → simple s at ≡ wrong Expect.escape at
+  simple-unknown e f = kinds.simple-unknown s at e f
+
+  -- "`\u` and four hex digits of either case"
+  pub simple-unicode : byte s at ≡ 0x75 → simple s at ≡ unicode s (at + 1)
+  simple-unicode e = kinds.simple-unicode s at e
+
+  pub unicode-char : at + 4 ≤ past hexDigit s at → surrogate (hexes s at 4) ≡ false → unicode s at ≡ found (char (hexes s at 4)) (at + 4)
+  unicode-char h e = kinds.unicode-char s at h e
+
+  -- "A bad or missing hex digit is Unicode there; a surrogate is Unicode just after `u`; reading goes on from there."
+  pub unicode-bad : past hexDigit s at < at + 4 → unicode s at ≡ wrong Expect.unicode (past hexDigit s at)
+  unicode-bad h = kinds.unicode-bad s at h
+
+  pub unicode-surrogate : at + 4 ≤ past hexDigit s at → surrogate (hexes s at 4) ≡ true → unicode s at ≡ wrong Expect.unicode at
+  unicode-surrogate h e = kinds.unicode-surrogate s at h e
 
 -- "After the top tokens and space, any rest is one Token error at its start."
 module _ (s : List ℕ) (b : ℕ) (ts : Tokens) (es : List Error) (top : tokensAt s 128 0 ≡ read b ts es) where

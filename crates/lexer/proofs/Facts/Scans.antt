@@ -1,18 +1,18 @@
 -- Scans: words, numbers and symbols end within the source, and so do their errors, in order. Assumes nothing.
-use mathlib.Core.Path.{_≡_, refl}
-use mathlib.Core.Bool.{Bool, true, false, cond, _&&_}
-use mathlib.Core.List.{List, [], _∷_, _++_}
-use Prim.Native.Nat.{ℕ, zero, suc, _+_, _-_, _≤_, _<_}
+use mathlib.Core.Path.{refl}
+use mathlib.Core.Bool.{_&&_}
+use mathlib.Core.List.{List, [], _∷_}
+use Prim.Native.Nat.{ℕ, _+_, _≤_, _<_}
 use native.Mathlib.Omega.{arith}
 use lib.ListN.{length}
 use lib.Dec.{eqb}
-use Rattle.lexer.specs.Token.{Expect, Error, missing}
+use Rattle.lexer.specs.Token.{Expect, missing}
 use Rattle.lexer.specs.Scan.{byte, past, oneOf, Scan, scan, expected}
 use Rattle.lexer.specs.Word.{digit, ident0, identEnd, ident1, sigil, modThenIdent}
 use Rattle.lexer.specs.Num.{digits1, fraction, sign, exponent, num}
 use Rattle.lexer.specs.Sym.{sym as symbol}
 use Rattle.lexer.specs.Kind.{plain}
-use Rattle.lexer.proofs.Facts.Cases.{either, both-left, both-right}
+use Rattle.lexer.proofs.Facts.Cases.{either, both-right}
 use Rattle.lexer.proofs.Facts.Onward.{Onward, stay, further, byte-is, byte-passes, past-on, ident0-on, identEnd-on, sigil-on, sign-on, symbol-on}
 use Rattle.lexer.proofs.Facts.Shape.{Rising}
 use Rattle.lexer.proofs.Facts.Spans.{rising-wide, rising-join, rising-one, rising-none}

@@ -1,10 +1,8 @@
 -- Where tokens stand, and where errors are: the terms in which the theorems speak of them. Assumes nothing.
-use mathlib.Core.Path.{_≡_, refl}
-use mathlib.Core.List.{List, [], _∷_, _++_}
-use Prim.Native.Nat.{ℕ, suc, _+_, _≤_, _<_}
-use native.Mathlib.Omega.{arith}
+use mathlib.Core.List.{List, [], _∷_}
+use Prim.Native.Nat.{ℕ, _+_, _≤_}
 use Rattle.lexer.specs.Read.{Read, read, deep}
-use Rattle.lexer.specs.Token.{Token, Tokens, leaf, char, group, none, more, one, join, Error}
+use Rattle.lexer.specs.Token.{Token, Tokens, leaf, char, group, none, more, Error}
 
 -- the place behind a token; a character has no place of its own, so what follows it follows what was before
 abbrev pub behind : Token → ℕ → ℕ

@@ -1,15 +1,14 @@
 -- Reading from a place on ends within the source; its tokens stand in a row between the two places, and so do its errors. For every fuel and every
 -- nesting allowed. Assumes nothing.
-use mathlib.Core.Path.{_≡_, refl}
-use mathlib.Core.Bool.{Bool, true, false, cond}
-use mathlib.Core.List.{List, [], _∷_, _++_}
+use mathlib.Core.Path.{_≡_}
+use mathlib.Core.List.{List, [], _++_}
 use Prim.Native.Nat.{ℕ, zero, suc, _+_, _-_, _*_, _≤_, _<_}
 use native.Mathlib.Omega.{arith}
 use lib.ListN.{length}
 use lib.Dec.{eqb, ltb}
-use borrow.Author.Tests.{eqb-true, eqb-false, ltb-true, ltb-false}
-use Rattle.lexer.specs.Token.{Token, Tokens, leaf, char, group, none, more, one, join, Expect, closer, Error, missing}
-use Rattle.lexer.specs.Scan.{byte, past, Scan}
+use borrow.Author.Tests.{eqb-false, ltb-false}
+use Rattle.lexer.specs.Token.{Token, Tokens, leaf, char, group, one, join, Expect, Error, missing}
+use Rattle.lexer.specs.Scan.{byte, past}
 use Rattle.lexer.specs.Space.{space}
 use Rattle.lexer.specs.Word.{letter, digit}
 use Rattle.lexer.specs.Sym.{operator}
@@ -18,10 +17,10 @@ use Rattle.lexer.specs.Escape.{named, hexDigit, hexes, surrogate, unicod
 use Rattle.lexer.specs.Read.{Read, read, deep, nothing, found, wrong, after, andThen, enclose}
 use Rattle.lexer.specs.Lex.{leafAt, closing, close, textByte, text, tokens, token, block, str, parts, escape, rest, whole}
 use Rattle.lexer.proofs.Facts.Cases.{either}
-use Rattle.lexer.proofs.Facts.Onward.{Onward, stay, further, byte-in, byte-is, byte-passes, past-on, space-on}
+use Rattle.lexer.proofs.Facts.Onward.{Onward, stay, byte-in, byte-is, past-on, space-on}
 use Rattle.lexer.proofs.Facts.Shape.{Lies, Row, Rising, stands}
 use Rattle.lexer.proofs.Facts.Spans.{row-low, row-wide, row-join, rising-wide, rising-join, rising-one, rising-none}
-use Rattle.lexer.proofs.Facts.Scans.{Scanned, plain-on}
+use Rattle.lexer.proofs.Facts.Scans.{plain-on}
 
 -- what is read from `at` on ends at b, not before `low`
 pub record Span (s : List ℕ) (at low b : ℕ) (ts : Tokens) (es : List Error) : Type 0 where

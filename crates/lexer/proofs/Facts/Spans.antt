@@ -1,9 +1,8 @@
 -- Rows of tokens and of errors: joined, and what they say of each member. Assumes nothing.
-use mathlib.Core.Path.{_≡_, refl}
 use mathlib.Core.List.{List, [], _∷_, _++_}
-use Prim.Native.Nat.{ℕ, suc, _+_, _≤_, _<_}
+use Prim.Native.Nat.{ℕ, _+_, _≤_}
 use native.Mathlib.Omega.{arith}
-use Rattle.lexer.specs.Token.{Token, Tokens, leaf, char, group, none, more, one, join, Error}
+use Rattle.lexer.specs.Token.{Token, Tokens, leaf, char, group, none, more, join, Error}
 use Rattle.lexer.proofs.Facts.Shape.{behind, Lies, Row, Rising, Placed, isLeaf, isGroup, Of, first, later, Among, Before, Reported}
 
 -- ---- rows of tokens

@@ -4,11 +4,11 @@ use mathlib.Core.Path.{_≡_, refl}
 use mathlib.Core.Bool.{Bool, true, false, cond, _||_}
 use mathlib.Core.List.{List, [], _∷_}
 use mathlib.Core.Logic.{_⊎_, inl, inr}
-use Prim.Native.Nat.{ℕ, zero, suc, _+_, _-_, _*_, _≤_, _<_}
+use Prim.Native.Nat.{ℕ, zero, suc, _+_, _-_, _*_, _≤_}
 use native.Mathlib.Omega.{arith}
 use lib.ListN.{length}
 use lib.Dec.{eqb, ltb}
-use borrow.Author.Tests.{eqb-true, eqb-false}
+use borrow.Author.Tests.{eqb-false}
 use Rattle.lexer.specs.Token.{Token, Tokens, leaf, char, group, none, more, one, join, Error}
 use Rattle.lexer.specs.Scan.{byte, oneOf, past}
 use Rattle.lexer.specs.Space.{space}
@@ -16,7 +16,7 @@ use Rattle.lexer.specs.Word.{letter, digit}
 use Rattle.lexer.specs.Sym.{operator}
 use Rattle.lexer.specs.Kind.{kind, plain}
 use Rattle.lexer.specs.Escape.{named, hexDigit, hexes, surrogate, unicode, simple}
-use Rattle.lexer.specs.Read.{Read, read, deep, nothing, found, wrong, after, andThen, enclose}
+use Rattle.lexer.specs.Read.{Read, read, deep, after, andThen, enclose}
 use Rattle.lexer.specs.Lex.{leafAt, closing, close, textByte, text, tokens, token, block, str, parts, escape, rest, whole}
 use Rattle.lexer.proofs.Facts.Cases.{either}
 
