@@ -30,7 +30,8 @@ unfoldable mutual
   over none n = Option.none
   over (more t ts) n = orElse (overIn t n) (over ts n)
 
--- what is read where more may be opened, and where n may: the same if no block or string has n others around it; else the latter breaks off at the first that does
+-- what is read where more may be opened, and where n may: the same if no block or string has n others around it, else the latter breaks off at the first
+-- that has
 pub data Narrow (n : ℕ) : Read → Read → Type 0 where
   same : {b : ℕ} {ts : Tokens} {es : List Error} → over ts n ≡ Option.none → Narrow n (read b ts es) (read b ts es)
   first : {b p : ℕ} {ts : Tokens} {es : List Error} → over ts n ≡ some p → Narrow n (read b ts es) (deep p)

@@ -99,7 +99,8 @@ module _ (s : List ℕ) (n at : ℕ) where
       escape-fuel (enough s) (suc (enough s)) s n at h (omega arith) (omega arith) ∙ rw (ne-eqb (byte s at) 0x28 e)
 
   -- "String: nonempty runs free of `\` and `"`; escapes ..": a run, and the quote that ends the string
-  pub parts-quote : at ≤ length s → byte s (past textByte s at) ≡ 0x22 → partsAt s n at ≡ after (text at (past textByte s at)) [] (nothing (past textByte s at + 1))
+  pub parts-quote : at ≤ length s → byte s (past textByte s at) ≡ 0x22
+      → partsAt s n at ≡ after (text at (past textByte s at)) [] (nothing (past textByte s at + 1))
   unfolding tokens partsAt
   parts-quote h e =
       parts-fuel (enough s) (suc (enough s)) s n at h (omega arith) (omega arith) ∙ rw e

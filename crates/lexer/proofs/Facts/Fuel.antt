@@ -47,12 +47,14 @@ mutual
       alike _≡_ (eqb (kind (byte s at)) 0x06) _ _ _ _ (λ e. str-fuel k l s n at h (omega arith) (omega arith))
       (λ e. alike _≡_ (eqb (kind (byte s at)) 0x07) _ _ _ _ (λ f. block-fuel k l s n at h (omega arith) (omega arith)) (λ f. refl))
 
-  pub block-fuel : (k l : ℕ) (s : List ℕ) (n at : ℕ) → at < length s → 3 * (length s - at) ≤ k + 1 → 3 * (length s - at) ≤ l + 1 → block k s n at ≡ block l s n at
+  pub block-fuel : (k l : ℕ) (s : List ℕ) (n at : ℕ) → at < length s → 3 * (length s - at) ≤ k + 1 → 3 * (length s - at) ≤ l + 1
+      → block k s n at ≡ block l s n at
   block-fuel zero l s n at h p q = absurd (omega arith)
   block-fuel (suc k) zero s n at h p q = absurd (omega arith)
   block-fuel (suc k) (suc l) s n at h p q =
       alike _≡_ (eqb n 0) _ _ _ _ (λ e. refl)
-      (λ e. ap (λ r. enclose 0x07 at (andThen r (λ b. close (byte s at) s (space s b)))) (tokens-fuel k l s (n - 1) (at + 1) (omega arith) (omega arith) (omega arith)))
+      (λ e. ap (λ r. enclose 0x07 at (andThen r (λ b. close (byte s at) s (space s b))))
+      (tokens-fuel k l s (n - 1) (at + 1) (omega arith) (omega arith) (omega arith)))
 
   pub str-fuel : (k l : ℕ) (s : List ℕ) (n at : ℕ) → at < length s → 3 * (length s - at) ≤ k + 1 → 3 * (length s - at) ≤ l + 1 → str k s n at ≡ str l s n at
   str-fuel zero l s n at h p q = absurd (omega arith)

@@ -102,7 +102,8 @@ refused s n p e = go (ltb 32768 (length s)) (ltb (validPrefix s) (length s)) ref
     deeper (read b ts []) z g = absurd (let w : _≡_ {A = ℕ} 0 1 = cc in omega arith)
     deeper (read b ts (x ∷ es)) z g = absurd (let w : _≡_ {A = ℕ} 0 1 = cc in omega arith)
 
-    go : (t u : Bool) → ltb (validPrefix s) (length s) ≡ u → cond t (refusal 2 0) (cond u (refusal 3 (validPrefix s)) (listed 2 (whole s))) ≡ refusal n p → p ≤ length s
+    go : (t u : Bool) → ltb (validPrefix s) (length s) ≡ u → cond t (refusal 2 0) (cond u (refusal 3 (validPrefix s)) (listed 2 (whole s))) ≡ refusal n p
+        → p ≤ length s
     go true u f q = let w : 0 ≡ p = cc in omega arith
     go false true f q = let w : validPrefix s ≡ p = cc in omega (arith, ltb-true (validPrefix s) (length s) f)
     go false false f q = deeper (whole s) (whole-sound s) q

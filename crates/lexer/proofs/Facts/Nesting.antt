@@ -108,11 +108,15 @@ module _ (w : ℕ) (small : w + w < 65536) where
 
     pub members-nests : (ts : Tokens) → Members ts → (d : ℕ) (rest : List ℕ) → nests 0 d (tokensBytes w ts ++ rest) ≡ nests 0 d rest
     members-nests none m d rest = refl
-    members-nests (more t ts) m d rest = ap (nests 0 d) (append-assoc (tokenBytes w t) (tokensBytes w ts) rest) ∙ (member-nests t (m .0) d (tokensBytes w ts ++ rest) ∙ members-nests ts (m .1) d rest)
+    members-nests (more t ts) m d rest =
+        ap (nests 0 d) (append-assoc (tokenBytes w t) (tokensBytes w ts) rest)
+        ∙ (member-nests t (m .0) d (tokensBytes w ts ++ rest) ∙ members-nests ts (m .1) d rest)
 
     pub parts-nests : (ts : Tokens) → Parts ts → (d : ℕ) (rest : List ℕ) → nests 0 d (tokensBytes w ts ++ rest) ≡ nests 0 d rest
     parts-nests none m d rest = refl
-    parts-nests (more t ts) m d rest = ap (nests 0 d) (append-assoc (tokenBytes w t) (tokensBytes w ts) rest) ∙ (part-nests t (m .0) d (tokensBytes w ts ++ rest) ∙ parts-nests ts (m .1) d rest)
+    parts-nests (more t ts) m d rest =
+        ap (nests 0 d) (append-assoc (tokenBytes w t) (tokensBytes w ts) rest)
+        ∙ (part-nests t (m .0) d (tokensBytes w ts ++ rest) ∙ parts-nests ts (m .1) d rest)
 
   -- the listing of such a row nests
   pub row-nests : (ts : Tokens) → Members ts → nests 0 0 (tokensBytes w ts) ≡ true

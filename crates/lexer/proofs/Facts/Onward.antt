@@ -68,7 +68,9 @@ run-fits p (b ∷ s) = either (λ n. n ≤ suc (length s)) (p b) (suc (run p s))
 
 pub past-on : (p : ℕ → Bool) (s : List ℕ) (at : ℕ) → at ≤ length s → Onward s at (past p s at)
 unfolding past
-past-on p s at h = let f : run p (drop at s) ≤ length (drop at s) = run-fits p (drop at s) in record { low = omega arith; high = omega (arith, length-drop at s) }
+past-on p s at h =
+    let f : run p (drop at s) ≤ length (drop at s) = run-fits p (drop at s) in
+    record { low = omega arith; high = omega (arith, length-drop at s) }
 
 -- ---- space
 
@@ -131,7 +133,8 @@ ident0-on s at h = past-on wordByte s at h
 
 -- one more byte is read where it passes a test that 0 does not pass
 pub step-on : (p : ℕ → Bool) (s : List ℕ) (at : ℕ) → p 0 ≡ false → at ≤ length s → Onward s at (cond (p (byte s at)) (at + 1) at)
-step-on p s at f h = either (Onward s at) (p (byte s at)) _ _ (λ e. record { low = omega arith; high = omega (arith, byte-passes p s at f e) }) (λ e. stay s at h)
+step-on p s at f h =
+    either (Onward s at) (p (byte s at)) _ _ (λ e. record { low = omega arith; high = omega (arith, byte-passes p s at f e) }) (λ e. stay s at h)
 
 pub identEnd-on : (s : List ℕ) (at : ℕ) → at ≤ length s → Onward s at (identEnd s at)
 unfolding identEnd letter

@@ -152,19 +152,6 @@ module _ (s : List ℕ) (b : ℕ) (ts : Tokens) (es : List Error) (found : whole
   pub tags-are : Members ts
   tags-are = tags.finds-read Members (rw found at (tags.whole-tags s))
 
-  -- ---- 5. every place in an error is at most the length of the source
-
-  pub error-place : {e : Error} → Reported e es → e .place ≤ length s
-  error-place m = let r = sound.sound-read (rw found at (sound.whole-sound s)) in omega (arith, spans.reported-in 0 b m (r .errors), r .on .high)
-
-  -- "Errors keep the order they arose in.": which is that of their places
-  pub errors-rise : Rising es 0 (length s)
-  errors-rise = let r = sound.sound-read (rw found at (sound.whole-sound s)) in spans.rising-wide es 0 b 0 (length s) (omega arith) (r .on .high) (r .errors)
-
--- the place of a refusal too
-pub refusal-place : (s : List ℕ) (n p : ℕ) → lexing s ≡ refusal n p → p ≤ length s
-refusal-place s n p e = outcomes.refused s n p e
-
 -- ---- 4. "06 and 07 enclose what follows up to 09 (empty)": a listing nests properly
 
 -- the tokens of a row, at any width of the numbers that a field's length can say
@@ -178,6 +165,20 @@ listing-nests s bytes e = nesting.accepted-nests s bytes e
 pub errors-nest : (s bytes : List ℕ) → lexing s ≡ listing 1 bytes → nests 0 0 bytes ≡ true
 errors-nest s bytes e = nesting.faulty-nests s bytes e
 
+-- ---- 5. every place in an error is at most the length of the source
+
+module _ (s : List ℕ) (b : ℕ) (ts : Tokens) (es : List Error) (found : whole s ≡ read b ts es) where
+  pub error-place : {e : Error} → Reported e es → e .place ≤ length s
+  error-place m = let r = sound.sound-read (rw found at (sound.whole-sound s)) in omega (arith, spans.reported-in 0 b m (r .errors), r .on .high)
+
+  -- "Errors keep the order they arose in.": which is that of their places
+  pub errors-rise : Rising es 0 (length s)
+  errors-rise = let r = sound.sound-read (rw found at (sound.whole-sound s)) in spans.rising-wide es 0 b 0 (length s) (omega arith) (r .on .high) (r .errors)
+
+-- the place of a refusal too
+pub refusal-place : (s : List ℕ) (n p : ℕ) → lexing s ≡ refusal n p → p ≤ length s
+refusal-place s n p e = outcomes.refused s n p e
+
 -- ---- 2., 3. and 5. of what is listed
 
 -- "0: listing of tokens": those that the whole source comes to, with no error; "1: listing of errors, nothing else"
@@ -187,15 +188,16 @@ listing-is s bytes e = outcomes.accepted s bytes e
 pub errors-are : (s bytes : List ℕ) → lexing s ≡ listing 1 bytes → Faulty s bytes
 errors-are s bytes e = outcomes.faulty s bytes e
 
--- "numbers in two bytes": starts and lengths fit them
-pub fits-two : (s bytes : List ℕ) (a : Accepted s bytes) → length s ≤ 32768 → {t : Token} {start size : ℕ} → Among t (a .row) → Placed t start size
-    → (value (number 2 start) ≡ start) × (value (number 2 size) ≡ size)
-fits-two s bytes a h {start = start} {size = size} m p =
-    let i = inside-source s (length s) (a .row) [] (a .found) m p in
-    (value-number 2 start (omega (arith, i .1)), value-number 2 size (omega (arith, i .1)))
-
+-- "2: input over 32,768 bytes": so "numbers in two bytes" holds every start and length
 pub listed-short : (s bytes : List ℕ) (n : ℕ) → lexing s ≡ listing n bytes → length s ≤ 32768
 listed-short s bytes n e = outcomes.listed-short s bytes n e
+
+pub fits-two : (s bytes : List ℕ) → lexing s ≡ listing 0 bytes → (a : Accepted s bytes) → {t : Token} {start size : ℕ} → Among t (a .row) → Placed t start size
+    → (value (number 2 start) ≡ start) × (value (number 2 size) ≡ size)
+fits-two s bytes e a {start = start} {size = size} m p =
+    let i = inside-source s (length s) (a .row) [] (a .found) m p in
+    let h : length s ≤ 32768 = listed-short s bytes 0 e in
+    (value-number 2 start (omega (arith, i .0, i .1)), value-number 2 size (omega (arith, i .0, i .1)))
 
 -- ---- "4: nesting over 128 in source; place: first opener that makes 129 open .. Source nesting counts open blocks and strings."
 
@@ -328,7 +330,8 @@ module _ (s : List ℕ) (n at : ℕ) where
   pub parts-ways : at ≤ length s → (past textByte s at ≡ length s) ⊎ ((byte s (past textByte s at) ≡ 0x5C) ⊎ (byte s (past textByte s at) ≡ 0x22))
   parts-ways h = free.parts-ways s at h
 
-  pub parts-quote : at ≤ length s → byte s (past textByte s at) ≡ 0x22 → partsAt s n at ≡ after (text at (past textByte s at)) [] (nothing (past textByte s at + 1))
+  pub parts-quote : at ≤ length s → byte s (past textByte s at) ≡ 0x22
+      → partsAt s n at ≡ after (text at (past textByte s at)) [] (nothing (past textByte s at + 1))
   parts-quote h e = free.parts-quote s n at h e
 
   pub parts-escape : at ≤ length s → byte s (past textByte s at) ≡ 0x5C

@@ -64,7 +64,8 @@ weaker s at low at′ low′ h k (reads {b} {ts} {es} r) = reads {b = b} {ts = t
 }
 weaker s at low at′ low′ h k (stops {p} o) = stops {p = p} record { low = omega (arith, o .low); high = o .high }
 
-after-sound : {q : Read} (s : List ℕ) (at b low : ℕ) (ts : Tokens) (es : List Error) → Row ts at b → Rising es at b → Sound s b low q → Sound s at low (after ts es q)
+after-sound : {q : Read} (s : List ℕ) (at b low : ℕ) (ts : Tokens) (es : List Error) → Row ts at b → Rising es at b → Sound s b low q
+    → Sound s at low (after ts es q)
 unfolding after
 after-sound s at b low ts es r e (reads {b = c} {ts = us} {es = fs} z) = reads {b = c} {ts = join ts us} {es = es ++ fs} record {
   on = z .on;
@@ -73,7 +74,8 @@ after-sound s at b low ts es r e (reads {b = c} {ts = us} {es = fs} z) = reads {
 }
 after-sound s at b low ts es r e (stops {p} o) = stops {p = p} record { low = omega (arith, row-low ts at b r, o .low); high = o .high }
 
-then-sound : {q : Read} (s : List ℕ) (at low low′ : ℕ) (f : ℕ → Read) → Sound s at low q → ((b : ℕ) → Onward s low b → Sound s b low′ (f b)) → Sound s at low′ (andThen q f)
+then-sound : {q : Read} (s : List ℕ) (at low low′ : ℕ) (f : ℕ → Read) → Sound s at low q → ((b : ℕ) → Onward s low b → Sound s b low′ (f b))
+    → Sound s at low′ (andThen q f)
 unfolding andThen
 then-sound s at low low′ f (reads {b} {ts} {es} r) g = after-sound s at b low′ ts es (r .tokens) (r .errors) (g b (r .on))
 then-sound s at low low′ f (stops o) g = stops o
@@ -112,7 +114,9 @@ close-sound opener s at c h =
 
 closing-some : (opener : ℕ) → 0 < closing opener
 unfolding closing
-closing-some opener = either (λ n. 0 < n) (eqb opener 0x28) _ _ (λ e. omega arith) (λ e. either (λ n. 0 < n) (eqb opener 0x5B) _ _ (λ e. omega arith) (λ e. omega arith))
+closing-some opener =
+    either (λ n. 0 < n) (eqb opener 0x28) _ _ (λ e. omega arith)
+    (λ e. either (λ n. 0 < n) (eqb opener 0x5B) _ _ (λ e. omega arith) (λ e. omega arith))
 
 text-row : (at b : ℕ) → at ≤ b → Row (text at b) at b
 unfolding text Lies
@@ -139,9 +143,11 @@ pub simple-sound : (s : List ℕ) (at : ℕ) → at ≤ length s → Sound s at 
 unfolding simple named
 simple-sound s at h =
     either (Sound s at at) (eqb (byte s at) 0x75) _ _
-    (λ e. let k : at + 1 ≤ length s = omega (arith, byte-is s at 0x75 (omega arith) e) in weaker s (at + 1) (at + 1) at at (omega arith) (omega arith) (unicode-sound s (at + 1) k))
+    (λ e. let k : at + 1 ≤ length s = omega (arith, byte-is s at 0x75 (omega arith) e) in
+    weaker s (at + 1) (at + 1) at at (omega arith) (omega arith) (unicode-sound s (at + 1) k))
     (λ e. either (Sound s at at) (eqb (named (byte s at)) 0) _ _ (λ f. wrong-at _ s at at (stay s at h))
-    (λ f. let k : at < length s = byte-in s at (λ z. eqb-false (named (byte s at)) 0 f (rw z)) in char-sound _ s at (at + 1) (record { low = omega arith; high = omega arith })))
+    (λ f. let k : at < length s = byte-in s at (λ z. eqb-false (named (byte s at)) 0 f (rw z)) in
+    char-sound _ s at (at + 1) (record { low = omega arith; high = omega arith })))
 
 -- ---- the cycle
 
@@ -177,7 +183,8 @@ mutual
       (λ e. enclose-sound 0x07 s at
       (then-sound s (at + 1) (at + 1) (at + 1) _ (tokens-sound k s (n - 1) (at + 1) (omega arith))
       (λ b p. let o = space-on s b (p .high) in
-      weaker s (space s b) (space s b) b (at + 1) (o .low) (omega (arith, o .low, p .low)) (close-sound (byte s at) s (space s b) (closing-some (byte s at)) (o .high)))))
+      weaker s (space s b) (space s b) b (at + 1) (o .low) (omega (arith, o .low, p .low))
+      (close-sound (byte s at) s (space s b) (closing-some (byte s at)) (o .high)))))
 
   pub str-sound : (k : ℕ) (s : List ℕ) (n at : ℕ) → at < length s → Sound s at (at + 1) (str k s n at)
   str-sound zero s n at h = stops (stay s at (omega arith))

@@ -20,7 +20,8 @@ use Rattle.lexer.specs.Read.{Read, read, deep, after, andThen, enclose}
 use Rattle.lexer.specs.Lex.{leafAt, closing, close, textByte, text, tokens, token, block, str, parts, escape, rest, whole}
 use Rattle.lexer.proofs.Facts.Cases.{either}
 
--- a token at the top or in a block: Word, Var, Fmt, Num or Sym, a string of parts, a block of such tokens. A part of a string: a text part, a character, a block
+-- a token at the top or in a block: Word, Var, Fmt, Num or Sym, a string of parts, a block of such tokens. A part of a string: a text part, a character,
+-- a block
 unfoldable mutual
   pub Member : Token → Type 0
   Member (leaf tag start size) = (1 ≤ tag) × (tag ≤ 5)
@@ -107,7 +108,8 @@ kind-most b =
     (most (operator b || oneOf (0x2E ∷ 0x3A ∷ 0x3B ∷ 0x2C ∷ 0x3F ∷ []) b) _ _ (omega arith)
     (most (eqb b 0x22) _ _ (omega arith) (most (oneOf (0x28 ∷ 0x5B ∷ 0x7B ∷ []) b) _ _ (omega arith) (omega arith)))))))
 
-leafAt-finds : (s : List ℕ) (at : ℕ) → (kind (byte s at) ≡ 0 → ⊥) → (kind (byte s at) ≡ 6 → ⊥) → (kind (byte s at) ≡ 7 → ⊥) → Finds Members (leafAt (kind (byte s at)) s at)
+leafAt-finds : (s : List ℕ) (at : ℕ) → (kind (byte s at) ≡ 0 → ⊥) → (kind (byte s at) ≡ 6 → ⊥) → (kind (byte s at) ≡ 7 → ⊥)
+    → Finds Members (leafAt (kind (byte s at)) s at)
 unfolding leafAt Member
 leafAt-finds s at f g h = let k : kind (byte s at) ≤ 7 = kind-most (byte s at) in
     reads {ts = one (leaf (kind (byte s at)) at (plain (kind (byte s at)) s at .at - at))} ((omega arith, omega arith), tt)
