@@ -11,10 +11,10 @@ use Rattle.fields.specs.Number.{number}
 use Rattle.fields.specs.Field.{field}
 use Rattle.fields.specs.Outcome.{Outcome, listing, refusal}
 use Rattle.lexer.specs.Token.{Tokens, none, more, leaf, group, one, join, Expect, Error, missing, closer, any}
-use Rattle.lexer.specs.Scan.{run, past, expected}
+use Rattle.lexer.specs.Scan.{run, past, optional, expected}
 use Rattle.lexer.specs.Space.{blank, inLine, lessCR, slashes, goesOn, nextLine, comment, skip, space}
-use Rattle.lexer.specs.Word.{letter, digit, wordByte, identEnd, ident1, sigil, modThenIdent}
-use Rattle.lexer.specs.Num.{digits1, fraction, sign, exponent, num}
+use Rattle.lexer.specs.Word.{letter, digit, wordByte, identEnd, ident1, modThenIdent}
+use Rattle.lexer.specs.Num.{digits1, fraction, exponent, num}
 use Rattle.lexer.specs.Sym.{operator, follows, dot, sym}
 use Rattle.lexer.specs.Kind.{kind, plain}
 use Rattle.lexer.specs.Escape.{named, hexDigit, hex, hexes, surrogate, unicode, simple}
@@ -51,8 +51,8 @@ pub bench :
     ∷ bad (missing (closer 0x28) 1 ∷ missing any 1 ∷ [])
     ∷ bad (missing Expect.ident 3 ∷ [])
     ∷ [])
-unfolding shown whole tokens rest leafAt closing close textByte text andThen after enclose join kind plain letter digit wordByte operator follows run past space skip blank
-    seqLen scalar table bits whiteSpace spaces expected identEnd ident1 sigil modThenIdent digits1 fraction sign exponent num dot sym named hexDigit hex hexes surrogate unicode simple
+unfolding shown whole tokens rest leafAt closing close textByte text andThen after enclose join kind plain letter digit wordByte operator follows run past optional space skip blank
+    seqLen scalar table bits whiteSpace spaces expected identEnd ident1 modThenIdent digits1 fraction exponent num dot sym named hexDigit hex hexes surrogate unicode simple
 bench = refl
 
 -- `()` whole: 00 01 00 01; 07 04 00 00 00 02 00; 05 04 00 01 00 01 00; 09 00 00.
@@ -64,6 +64,6 @@ pub parens :
     ∷ 0x05 ∷ 0x04 ∷ 0x00 ∷ 0x01 ∷ 0x00 ∷ 0x01 ∷ 0x00
     ∷ 0x09 ∷ 0x00 ∷ 0x00 ∷ [])
 unfolding lexing listed validPrefix passing edition tokensBytes pair field number
-    whole tokens rest leafAt closing close textByte text andThen after enclose join kind plain letter digit wordByte operator follows run past space skip blank
-    seqLen scalar table bits whiteSpace spaces expected identEnd ident1 sigil modThenIdent digits1 fraction sign exponent num dot sym named hexDigit hex hexes surrogate unicode simple
+    whole tokens rest leafAt closing close textByte text andThen after enclose join kind plain letter digit wordByte operator follows run past optional space skip blank
+    seqLen scalar table bits whiteSpace spaces expected identEnd ident1 modThenIdent digits1 fraction exponent num dot sym named hexDigit hex hexes surrogate unicode simple
 parens = refl

@@ -12,9 +12,9 @@ use Rattle.lexer.specs.Sym.{operator, sym}
 unfoldable pub kind : ℕ → ℕ
 kind b =
     cond (letter b) 0x01
+    (cond (digit b) 0x04
     (cond (eqb b 0x24) 0x02
     (cond (eqb b 0x40) 0x03
-    (cond (digit b) 0x04
     (cond (operator b || oneOf (0x2E ∷ 0x3A ∷ 0x3B ∷ 0x2C ∷ 0x3F ∷ []) b) 0x05
     (cond (eqb b 0x22) 0x06
     (cond (oneOf (0x28 ∷ 0x5B ∷ 0x7B ∷ []) b) 0x07 0x00))))))

@@ -4,7 +4,7 @@ use mathlib.Core.Bool.{cond}
 use mathlib.Core.List.{List, [], _∷_, _++_}
 use lib.Dec.{eqb}
 use Rattle.lexer.specs.Token.{Expect}
-use Rattle.lexer.specs.Scan.{byte, past, oneOf, Scan, scan, expected}
+use Rattle.lexer.specs.Scan.{byte, past, oneOf, optional, Scan, scan, expected}
 use Rattle.lexer.specs.Word.{digit}
 
 unfoldable pub digits1 : List ℕ → ℕ → Scan
@@ -14,13 +14,9 @@ digits1 s at = expected Expect.digit at (past digit s at)
 unfoldable pub fraction : List ℕ → ℕ → Scan
 fraction s at = cond (eqb (byte s at) 0x2E) (digits1 s (at + 1)) (scan at)
 
--- the place behind one optional sign
-unfoldable pub sign : List ℕ → ℕ → ℕ
-sign s at = cond (oneOf (0x2B ∷ 0x2D ∷ []) (byte s at)) (at + 1) at
-
 -- optional `e`/`E`, one optional sign, digits
 unfoldable pub exponent : List ℕ → ℕ → Scan
-exponent s at = cond (oneOf (0x65 ∷ 0x45 ∷ []) (byte s at)) (digits1 s (sign s (at + 1))) (scan at)
+exponent s at = cond (oneOf (0x65 ∷ 0x45 ∷ []) (byte s at)) (digits1 s (optional (0x2B ∷ 0x2D ∷ []) s (at + 1))) (scan at)
 
 -- behind the first digit
 unfoldable pub num : List ℕ → ℕ → Scan

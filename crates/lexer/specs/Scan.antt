@@ -25,6 +25,10 @@ run p (b ∷ bs) = cond (p b) (suc (run p bs)) 0
 unfoldable pub past : (ℕ → Bool) → List ℕ → ℕ → ℕ
 past p s at = at + run p (drop at s)
 
+-- the place behind one optional byte of those given
+unfoldable pub optional : List ℕ → List ℕ → ℕ → ℕ
+optional ks s at = cond (oneOf ks (byte s at)) (at + 1) at
+
 -- where a scan stands at its end, and the errors that arose
 pub record Scan : Type 0 where
   pub at : ℕ

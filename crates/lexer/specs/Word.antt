@@ -6,7 +6,7 @@ use mathlib.Core.List.{List, [], _∷_}
 use lib.Dec.{eqb}
 use Rattle.text.specs.Ranges.{_‥_, among}
 use Rattle.lexer.specs.Token.{ident}
-use Rattle.lexer.specs.Scan.{byte, past, oneOf, Scan, scan, expected}
+use Rattle.lexer.specs.Scan.{byte, past, optional, Scan, scan, expected}
 
 -- [a-zA-Z_]
 unfoldable pub letter : ℕ → Bool
@@ -31,12 +31,8 @@ identEnd s at = cond (letter (byte s at)) (ident0 s (at + 1)) at
 unfoldable pub ident1 : List ℕ → ℕ → Scan
 ident1 s at = expected ident at (identEnd s at)
 
--- the place behind one optional `@` or `$`
-unfoldable pub sigil : List ℕ → ℕ → ℕ
-sigil s at = cond (oneOf (0x40 ∷ 0x24 ∷ []) (byte s at)) (at + 1) at
-
 -- behind the first letter of a word
 unfoldable pub modThenIdent : List ℕ → ℕ → Scan
 modThenIdent s at =
     let a = ident0 s at in
-    cond (eqb (byte s a) 0x3A && eqb (byte s (a + 1)) 0x3A) (ident1 s (sigil s (a + 2))) (scan a)
+    cond (eqb (byte s a) 0x3A && eqb (byte s (a + 1)) 0x3A) (ident1 s (optional (0x40 ∷ 0x24 ∷ []) s (a + 2))) (scan a)

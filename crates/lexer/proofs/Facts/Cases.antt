@@ -13,10 +13,6 @@ module _ {A : Type 0} where
   alike R true x x′ y y′ f g = f refl
   alike R false x x′ y y′ f g = g refl
 
-pub both-left : (a b : Bool) → a && b ≡ true → a ≡ true
-both-left true b e = refl
-both-left false b e = e
-
 pub both-right : (a b : Bool) → a && b ≡ true → b ≡ true
 both-right true b e = e
 both-right false true e = refl

@@ -13,7 +13,7 @@ use Rattle.lexer.specs.Sym.{operator}
 use Rattle.lexer.specs.Kind.{kind}
 use Rattle.lexer.specs.Escape.{named, hexDigit, hexes, surrogate, unicode, simple}
 use Rattle.lexer.specs.Read.{found, wrong}
-use Rattle.lexer.proofs.Facts.Cases.{both-left, both-right, or-left}
+use Rattle.lexer.proofs.Facts.Cases.{both-right, or-left}
 
 -- the property holds of each
 abbrev All : (ℕ → Type 0) → List ℕ → Type 0
@@ -38,25 +38,23 @@ module _ (b : ℕ) where
 
   -- "Var and Fmt: `$` or `@` .."
   pub var-kind : b ≡ 0x24 → kind b ≡ 0x02
-  unfolding kind letter
+  unfolding kind letter digit
   var-kind e = rw e
 
   pub fmt-kind : b ≡ 0x40 → kind b ≡ 0x03
-  unfolding kind letter
+  unfolding kind letter digit
   fmt-kind e = rw e
 
   -- "Num: digits .."
-  digit-not : digit b ≡ true → (letter b ≡ false) × (b ≡ 0x24 → ⊥) × (b ≡ 0x40 → ⊥)
+  digit-not : digit b ≡ true → letter b ≡ false
   unfolding digit letter
   digit-not e =
-      let d = or-left (leb 0x30 b && leb b 0x39) e in
-      let h : 0x30 ≤ b = leb-true 0x30 b (both-left (leb 0x30 b) (leb b 0x39) d) in
-      let k : b ≤ 0x39 = leb-true b 0x39 (both-right (leb 0x30 b) (leb b 0x39) d) in
-      (rw (lt-leb 0x61 b (omega arith), lt-leb 0x41 b (omega arith), lt-leb 0x5F b (omega arith)), omega arith, omega arith)
+      let k : b ≤ 0x39 = leb-true b 0x39 (both-right (leb 0x30 b) (leb b 0x39) (or-left (leb 0x30 b && leb b 0x39) e)) in
+      rw (lt-leb 0x61 b (omega arith), lt-leb 0x41 b (omega arith), lt-leb 0x5F b (omega arith))
 
   pub num-kind : digit b ≡ true → kind b ≡ 0x04
   unfolding kind
-  num-kind e = let f = digit-not e in rw (f .0, ne-eqb b 0x24 (f .1), ne-eqb b 0x40 (f .2), e)
+  num-kind e = rw (digit-not e, e)
 
   -- "Sym: one of `|=!<>+-*/%` ..; `.` ..; each of `: ; , ?`."
   pub operator-kind : operator b ≡ true → kind b ≡ 0x05

@@ -13,10 +13,9 @@ use borrow.Author.Tests.{eqb-true}
 use Rattle.text.specs.Ranges.{Range, starts, within}
 use Rattle.text.specs.Utf8.{Row, table, lenIn, seqLen, scalar}
 use Rattle.text.specs.Space.{whiteSpace}
-use Rattle.lexer.specs.Scan.{byte, oneOf, run, past}
+use Rattle.lexer.specs.Scan.{byte, oneOf, run, past, optional}
 use Rattle.lexer.specs.Space.{blank, inLine, goesOn, nextLine, comment, skip, space}
-use Rattle.lexer.specs.Word.{letter, wordByte, ident0, identEnd, sigil}
-use Rattle.lexer.specs.Num.{sign}
+use Rattle.lexer.specs.Word.{letter, wordByte, ident0, identEnd}
 use Rattle.lexer.proofs.Facts.Cases.{either, both-right}
 use Rattle.lexer.specs.Sym.{operator, follows, dot, sym as symbol}
 
@@ -131,10 +130,12 @@ space-on s at h = skip-on (suc (length s)) s at h
 pub ident0-on : (s : List ℕ) (at : ℕ) → at ≤ length s → Onward s at (ident0 s at)
 ident0-on s at h = past-on wordByte s at h
 
--- one more byte is read where it passes a test that 0 does not pass
-pub step-on : (p : ℕ → Bool) (s : List ℕ) (at : ℕ) → p 0 ≡ false → at ≤ length s → Onward s at (cond (p (byte s at)) (at + 1) at)
-step-on p s at f h =
-    either (Onward s at) (p (byte s at)) _ _ (λ e. record { low = omega arith; high = omega (arith, byte-passes p s at f e) }) (λ e. stay s at h)
+pub optional-on : (ks : List ℕ) (s : List ℕ) (at : ℕ) → oneOf ks 0 ≡ false → at ≤ length s → Onward s at (optional ks s at)
+unfolding optional
+optional-on ks s at f h =
+    either (Onward s at) (oneOf ks (byte s at)) _ _
+    (λ e. record { low = omega arith; high = omega (arith, byte-passes (oneOf ks) s at f e) })
+    (λ e. stay s at h)
 
 pub identEnd-on : (s : List ℕ) (at : ℕ) → at ≤ length s → Onward s at (identEnd s at)
 unfolding identEnd letter
@@ -142,14 +143,6 @@ identEnd-on s at h =
     either (Onward s at) (letter (byte s at)) _ _
     (λ e. let o = ident0-on s (at + 1) (omega (arith, byte-passes letter s at refl e)) in record { low = omega (arith, o .low); high = o .high })
     (λ e. stay s at h)
-
-pub sigil-on : (s : List ℕ) (at : ℕ) → at ≤ length s → Onward s at (sigil s at)
-unfolding sigil
-sigil-on s at h = step-on (oneOf (0x40 ∷ 0x24 ∷ [])) s at refl h
-
-pub sign-on : (s : List ℕ) (at : ℕ) → at ≤ length s → Onward s at (sign s at)
-unfolding sign
-sign-on s at h = step-on (oneOf (0x2B ∷ 0x2D ∷ [])) s at refl h
 
 -- a symbol has at least one byte
 pub dot-on : (s : List ℕ) (at : ℕ) → at < length s → Onward s (at + 1) (dot s at)

@@ -12,7 +12,7 @@ use Rattle.fields.specs.Number.{number, value, value-number}
 use Rattle.fields.specs.Outcome.{listing, refusal}
 use Rattle.lexer.specs.Token.{Token, Tokens, leaf, char, group, Expect, closer, Error, missing}
 use Rattle.lexer.specs.Scan.{byte, oneOf, past}
-use Rattle.lexer.specs.Space.{blank, inLine, goesOn, nextLine, space}
+use Rattle.lexer.specs.Space.{blank, inLine, goesOn, nextLine, comment, skip, space}
 use Rattle.lexer.specs.Word.{letter, digit, ident0, identEnd, ident1, modThenIdent}
 use Rattle.lexer.specs.Num.{num}
 use Rattle.lexer.specs.Sym.{operator, sym}
@@ -31,7 +31,7 @@ use Rattle.lexer.proofs.Facts.Sound as sound
 use Rattle.lexer.proofs.Facts.Sound.{Span}
 use Rattle.lexer.proofs.Facts.Fuel as fuel
 use Rattle.lexer.proofs.Facts.Blanks as blanks
-use Rattle.lexer.proofs.Facts.Blanks.{commentAt}
+use Rattle.lexer.proofs.Facts.Blanks.{commentAt, Bare}
 use Rattle.lexer.proofs.Facts.Free as free
 use Rattle.lexer.proofs.Facts.Free.{tokensAt, tokenAt, blockAt, strAt, partsAt, escapeAt}
 use Rattle.lexer.proofs.Facts.Kinds as kinds
@@ -246,6 +246,13 @@ module _ (k l : ℕ) (s : List ℕ) (n at : ℕ) where
   pub escape-fuel : at ≤ length s → 3 * (length s - at) < k → 3 * (length s - at) < l → escape k s n at ≡ escape l s n at
   escape-fuel h p q = fuel.escape-fuel k l s n at h p q
 
+-- the numbers that bound the lines of a comment and the turns of skipping: one for each byte that is left, and one more
+pub comment-fuel : (k l : ℕ) (s : List ℕ) (at : ℕ) → at ≤ length s → length s - at < k → length s - at < l → comment k s at ≡ comment l s at
+comment-fuel k l s at h p q = blanks.comment-fuel k l s at h p q
+
+pub skip-fuel : (k l : ℕ) (s : List ℕ) (at : ℕ) → at ≤ length s → length s - at < k → length s - at < l → skip k s at ≡ skip l s at
+skip-fuel k l s at h p q = blanks.skip-fuel k l s at h p q
+
 -- So each can be had free of it, with what is enough for the whole source: the equations that document 01 gives of them.
 
 -- "Space: Unicode White_Space."
@@ -258,6 +265,13 @@ module _ (s : List ℕ) (at : ℕ) (h : at ≤ length s) where
 
   pub space-none : blank s at ≡ 0 → (byte s at ≡ 0x23 → ⊥) → space s at ≡ at
   space-none e f = blanks.space-none s at e f
+
+  -- all of it is skipped: behind it stands no more
+  pub space-bare : Bare s (space s at)
+  space-bare = blanks.space-bare s at h
+
+  pub space-again : space s (space s at) ≡ space s at
+  space-again = blanks.space-again s at h
 
   -- "Does the comment go on past its newline? Exactly if the line, less one trailing CR, ends in an odd number of backslashes. End of input ends it."
   pub comment-goes : goesOn s at (past inLine s at - at) ≡ true → commentAt s at ≡ commentAt s (nextLine s at)

@@ -7,13 +7,13 @@ use native.Mathlib.Omega.{arith}
 use lib.ListN.{length}
 use lib.Dec.{eqb}
 use Rattle.lexer.specs.Token.{Expect, missing}
-use Rattle.lexer.specs.Scan.{byte, past, oneOf, Scan, scan, expected}
-use Rattle.lexer.specs.Word.{digit, ident0, identEnd, ident1, sigil, modThenIdent}
-use Rattle.lexer.specs.Num.{digits1, fraction, sign, exponent, num}
+use Rattle.lexer.specs.Scan.{byte, past, oneOf, optional, Scan, scan, expected}
+use Rattle.lexer.specs.Word.{digit, ident0, identEnd, ident1, modThenIdent}
+use Rattle.lexer.specs.Num.{digits1, fraction, exponent, num}
 use Rattle.lexer.specs.Sym.{sym as symbol}
 use Rattle.lexer.specs.Kind.{plain}
 use Rattle.lexer.proofs.Facts.Cases.{either, both-right}
-use Rattle.lexer.proofs.Facts.Onward.{Onward, stay, further, byte-is, byte-passes, past-on, ident0-on, identEnd-on, sigil-on, sign-on, symbol-on}
+use Rattle.lexer.proofs.Facts.Onward.{Onward, stay, further, byte-is, byte-passes, past-on, ident0-on, identEnd-on, optional-on, symbol-on}
 use Rattle.lexer.proofs.Facts.Shape.{Rising}
 use Rattle.lexer.proofs.Facts.Spans.{rising-wide, rising-join, rising-one, rising-none}
 
@@ -49,8 +49,10 @@ modThenIdent-on s at h =
     let o = ident0-on s at h in
     let a = ident0 s at in
     either (Scanned s at) (eqb (byte s a) 0x3A && eqb (byte s (a + 1)) 0x3A) _ _
-    (λ e. let z = sigil-on s (a + 2) (omega (arith, byte-is s (a + 1) 0x3A (omega arith) (both-right (eqb (byte s a) 0x3A) _ e))) in
-    earlier s at (sigil s (a + 2)) _ (omega (arith, o .low, z .low)) (ident1-on s (sigil s (a + 2)) (z .high)))
+    (λ e. let sigil : List ℕ = 0x40 ∷ 0x24 ∷ [] in
+    let h : a + 2 ≤ length s = omega (arith, byte-is s (a + 1) 0x3A (omega arith) (both-right (eqb (byte s a) 0x3A) _ e)) in
+    let z = optional-on sigil s (a + 2) refl h in
+    earlier s at (optional sigil s (a + 2)) _ (omega (arith, o .low, z .low)) (ident1-on s (optional sigil s (a + 2)) (z .high)))
     (λ e. scan-on s at a o)
 
 pub digits1-on : (s : List ℕ) (at : ℕ) → at ≤ length s → Scanned s at (digits1 s at)
@@ -68,8 +70,9 @@ pub exponent-on : (s : List ℕ) (at : ℕ) → at ≤ length s → Scanned s at
 unfolding exponent
 exponent-on s at h =
     either (Scanned s at) (oneOf (0x65 ∷ 0x45 ∷ []) (byte s at)) _ _
-    (λ e. let z = sign-on s (at + 1) (omega (arith, byte-passes (oneOf (0x65 ∷ 0x45 ∷ [])) s at refl e)) in
-    earlier s at (sign s (at + 1)) _ (omega (arith, z .low)) (digits1-on s (sign s (at + 1)) (z .high)))
+    (λ e. let sign : List ℕ = 0x2B ∷ 0x2D ∷ [] in
+    let z = optional-on sign s (at + 1) refl (omega (arith, byte-passes (oneOf (0x65 ∷ 0x45 ∷ [])) s at refl e)) in
+    earlier s at (optional sign s (at + 1)) _ (omega (arith, z .low)) (digits1-on s (optional sign s (at + 1)) (z .high)))
     (λ e. scan-on s at at (stay s at h))
 
 pub num-on : (s : List ℕ) (at : ℕ) → at ≤ length s → Scanned s at (num s at)

@@ -102,9 +102,9 @@ kind-most : (b : ℕ) → kind b ≤ 7
 unfolding kind
 kind-most b =
     most (letter b) _ _ (omega arith)
+    (most (digit b) _ _ (omega arith)
     (most (eqb b 0x24) _ _ (omega arith)
     (most (eqb b 0x40) _ _ (omega arith)
-    (most (digit b) _ _ (omega arith)
     (most (operator b || oneOf (0x2E ∷ 0x3A ∷ 0x3B ∷ 0x2C ∷ 0x3F ∷ []) b) _ _ (omega arith)
     (most (eqb b 0x22) _ _ (omega arith) (most (oneOf (0x28 ∷ 0x5B ∷ 0x7B ∷ []) b) _ _ (omega arith) (omega arith)))))))
 
