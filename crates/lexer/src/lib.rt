@@ -12,11 +12,10 @@ mod word;
 ghost use mathlib.Core.Path.{_≡_};
 ghost use Prim.Native.Nat.{_+_, _≤_, _<_};
 ghost use lib.ListN.{length, take};
-ghost use Rattle.fields.specs.Outcome.{refusal};
-ghost use Rattle.fields.specs.Room.{overlay};
 ghost use Rattle.lexer.specs.Lex.{whole};
 ghost use Rattle.lexer.specs.Lexing.{listed};
-ghost use Rattle.lexer.specs.Due.{deepness, tokensDue, errorsDue, Listed, Told, Lexed};
+ghost use Rattle.lexer.specs.Meets.{Ready};
+ghost use Rattle.lexer.specs.Due.{deepness, tokensDue, errorsDue, refusedAs, Rests, Listed, Told, Lexed};
 
 use fields::Answer;
 use scan::State;
@@ -64,7 +63,9 @@ fn rest(s: &[u8], p: State, err: &mut [u8]) -> State
     }
 }
 
-fn refused(number: u8, place: usize) -> Answer {
+fn refused(number: u8, place: usize) -> Answer
+    ensures { λ r. ⌜ r ≡ refusedAs number place ⌝ }
+{
     Answer {
         number: number,
         length: 0,
@@ -72,30 +73,38 @@ fn refused(number: u8, place: usize) -> Answer {
     }
 }
 
-fn errors(source: &[u8], length: usize, out: &mut [u8]) -> Answer {
-    if length > out.len() {
+// The listing of what is wrong, which takes so many bytes, into the room lent.
+fn list_errors(source: &[u8], size: usize, out: &mut [u8]) -> Answer
+    requires { ⌜ (length (now source) ≤ 32768) × (deepness (whole (now source)) ≡ 0) × (size ≡ length (errorsDue (whole (now source)))) × (4 < size) × (size ≤ 1048576) ⌝ }
+    ensures { λ r. ⌜ Told (listed 2 (whole (now (source .entry)))) (now (out .entry)) (now (out .exit)) r ⌝ }
+{
+    if size > out.len() {
         return refused(7, 0);
     }
     let mut none = [0u8; 1];
     whole(source, &mut none[..0], out);
     Answer {
         number: 1,
-        length: length,
+        length: size,
         place: 0,
     }
 }
 
-fn tokens(source: &[u8], length: usize, scratch: &mut [u8], out: &mut [u8]) -> Answer {
-    if length > out.len() {
+// The listing of the tokens, which takes so many bytes, into the room lent: out of the scratch, if it went in whole.
+fn list_tokens(source: &[u8], size: usize, scratch: &mut [u8], out: &mut [u8]) -> Answer
+    requires { ⌜ (length (now source) ≤ 32768) × (deepness (whole (now source)) ≡ 0) × (length (errorsDue (whole (now source))) ≤ 4) × (size ≡ length (tokensDue (whole (now source)))) × (size ≤ 1048576) × (size ≤ length (now scratch) → take size (now scratch) ≡ tokensDue (whole (now source))) ⌝ }
+    ensures { λ r. ⌜ Told (listed 2 (whole (now (source .entry)))) (now (out .entry)) (now (out .exit)) r ⌝ }
+{
+    if size > out.len() {
         return refused(7, 0);
     }
     let done = Answer {
         number: 0,
-        length: length,
+        length: size,
         place: 0,
     };
-    if length <= scratch.len() {
-        fields::put(out, 0, &scratch[..length]);
+    if size <= scratch.len() {
+        fields::put(out, 0, &scratch[..size]);
         return done;
     }
     let mut none = [0u8; 1];
@@ -103,35 +112,51 @@ fn tokens(source: &[u8], length: usize, scratch: &mut [u8], out: &mut [u8]) -> A
     done
 }
 
-// scratch of any size
-fn through(source: &[u8], scratch: &mut [u8], out: &mut [u8]) -> Answer {
+// By way of scratch of any size.
+fn through(source: &[u8], scratch: &mut [u8], out: &mut [u8]) -> Answer
+    requires { ⌜ length (now source) ≤ 32768 ⌝ }
+    ensures { λ r. ⌜ Told (listed 2 (whole (now (source .entry)))) (now (out .entry)) (now (out .exit)) r ⌝ }
+{
     let mut none = [0u8; 1];
     let p = whole(source, scratch, &mut none[..0]);
     if p.deep != 0 {
         return refused(4, p.deep - 1);
     }
     if p.errors > 4 {
-        return errors(source, p.errors, out);
+        return list_errors(source, p.errors, out);
     }
-    tokens(source, p.tokens, scratch, out)
+    list_tokens(source, p.tokens, scratch, out)
 }
 
-fn small(source: &[u8], out: &mut [u8]) -> Answer {
+// Scratch costs its clearing, so that a short source gets little of it.
+fn small(source: &[u8], out: &mut [u8]) -> Answer
+    requires { ⌜ length (now source) ≤ 32768 ⌝ }
+    ensures { λ r. ⌜ Told (listed 2 (whole (now (source .entry)))) (now (out .entry)) (now (out .exit)) r ⌝ }
+{
     let mut scratch = [0u8; 2048];
     through(source, &mut scratch, out)
 }
 
-fn middle(source: &[u8], out: &mut [u8]) -> Answer {
+fn middle(source: &[u8], out: &mut [u8]) -> Answer
+    requires { ⌜ length (now source) ≤ 32768 ⌝ }
+    ensures { λ r. ⌜ Told (listed 2 (whole (now (source .entry)))) (now (out .entry)) (now (out .exit)) r ⌝ }
+{
     let mut scratch = [0u8; 32768];
     through(source, &mut scratch, out)
 }
 
-fn large(source: &[u8], out: &mut [u8]) -> Answer {
+fn large(source: &[u8], out: &mut [u8]) -> Answer
+    requires { ⌜ length (now source) ≤ 32768 ⌝ }
+    ensures { λ r. ⌜ Told (listed 2 (whole (now (source .entry)))) (now (out .entry)) (now (out .exit)) r ⌝ }
+{
     let mut scratch = [0u8; 262144];
     through(source, &mut scratch, out)
 }
 
-pub fn lex(source: &[u8], out: &mut [u8]) -> Answer {
+// The tokens of a source, or what is wrong with it, listed in the room lent.
+pub fn lex(source: &[u8], out: &mut [u8]) -> Answer
+    ensures { λ r. ⌜ Lexed (now (source .entry)) (now (out .entry)) (now (out .exit)) r ⌝ }
+{
     let n = source.len();
     if n > 32768 {
         return refused(2, 0);

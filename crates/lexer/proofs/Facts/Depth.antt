@@ -13,7 +13,7 @@ use Rattle.lexer.specs.Space.{space}
 use Rattle.lexer.specs.Kind.{kind}
 use Rattle.lexer.specs.Escape.{named, hexDigit, hexes, surrogate, unicode, simple}
 use Rattle.lexer.specs.Read.{Read, read, deep, after, andThen, enclose}
-use Rattle.lexer.specs.Lex.{leafAt, closing, close, textByte, text, tokens, token, block, str, parts, escape}
+use Rattle.lexer.specs.Lex.{leafAt, closing, close, textByte, text, quote, tokens, token, block, str, parts, escape}
 use Rattle.lexer.proofs.Facts.Cases.{either, alike}
 use Rattle.lexer.proofs.Facts.Free.{tokensAt}
 use Rattle.lexer.proofs.Facts.Openers.{Breaks, breaks-not, tokens-breaks}
@@ -125,7 +125,7 @@ text-over at b n = either (λ ts. over ts n ≡ Option.none) (eqb b at) _ _ (λ 
 -- ---- the cycle
 
 mutual
-  unfolding tokens Level over
+  unfolding tokens quote Level over
 
   pub tokens-narrow : (k : ℕ) (s : List ℕ) (m n at : ℕ) → n ≤ m → Narrow n (tokens k s m at) (tokens k s n at)
   tokens-narrow zero s m n at h = both
@@ -164,10 +164,9 @@ mutual
   parts-narrow (suc k) s m n at h =
       let a = past textByte s at in
       after-narrow n (text at a) [] (text-over at a n)
-      (alike (Narrow n) (eqb (byte s a) 0x22) _ _ _ _ (λ e. same refl)
-      (λ e. alike (Narrow n) (eqb (byte s a) 0x5C) _ _ _ _
+      (alike (Narrow n) (eqb (byte s a) 0x5C) _ _ _ _
       (λ f. then-narrow n _ _ (escape-narrow k s m n (a + 1) h) (λ b. parts-narrow k s m n b h))
-      (λ f. same refl)))
+      (λ f. alike (Narrow n) (eqb (byte s a) 0x22) _ _ _ _ (λ e. same refl) (λ e. same refl)))
 
   pub escape-narrow : (k : ℕ) (s : List ℕ) (m n at : ℕ) → n ≤ m → Narrow n (escape k s m at) (escape k s n at)
   escape-narrow zero s m n at h = both

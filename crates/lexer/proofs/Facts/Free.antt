@@ -16,7 +16,7 @@ use Rattle.lexer.specs.Space.{space}
 use Rattle.lexer.specs.Kind.{kind}
 use Rattle.lexer.specs.Escape.{simple}
 use Rattle.lexer.specs.Read.{Read, read, deep, nothing, found, wrong, after, andThen, enclose}
-use Rattle.lexer.specs.Lex.{leafAt, closing, close, textByte, text, tokens, token, block, str, parts, escape, rest, whole}
+use Rattle.lexer.specs.Lex.{leafAt, closing, close, textByte, text, quote, tokens, token, block, str, parts, escape, rest, whole}
 use Rattle.lexer.proofs.Facts.Cases.{either}
 use Rattle.lexer.proofs.Facts.Onward.{byte-is}
 use Rattle.lexer.proofs.Facts.Sound.{kind-in}
@@ -101,7 +101,7 @@ module _ (s : List ℕ) (n at : ℕ) where
   -- "String: nonempty runs free of `\` and `"`; escapes ..": a run, and the quote that ends the string
   pub parts-quote : at ≤ length s → byte s (past textByte s at) ≡ 0x22
       → partsAt s n at ≡ after (text at (past textByte s at)) [] (nothing (past textByte s at + 1))
-  unfolding tokens partsAt
+  unfolding tokens quote partsAt
   parts-quote h e =
       parts-fuel (enough s) (suc (enough s)) s n at h (omega arith) (omega arith) ∙ rw e
 
@@ -114,7 +114,7 @@ module _ (s : List ℕ) (n at : ℕ) where
 
   -- "End of input is Delim with `"`."
   pub parts-end : at ≤ length s → past textByte s at ≡ length s → partsAt s n at ≡ after (text at (length s)) [] (wrong (closer 0x22) (length s))
-  unfolding tokens partsAt
+  unfolding tokens quote partsAt
   parts-end h e =
       let z : byte s (length s) ≡ 0 = List·getD-eq-default s 0 (omega arith) in
       parts-fuel (enough s) (suc (enough s)) s n at h (omega arith) (omega arith) ∙ rw (e, z)

@@ -11,7 +11,7 @@ use Rattle.lexer.specs.Scan.{byte, past}
 use Rattle.lexer.specs.Space.{space}
 use Rattle.lexer.specs.Kind.{kind}
 use Rattle.lexer.specs.Read.{Read, after, andThen, enclose}
-use Rattle.lexer.specs.Lex.{close, textByte, text, tokens, token, block, str, parts, escape}
+use Rattle.lexer.specs.Lex.{close, textByte, text, quote, tokens, token, block, str, parts, escape}
 use Rattle.lexer.proofs.Facts.Cases.{alike}
 use Rattle.lexer.proofs.Facts.Onward.{Onward, byte-is, past-on, space-on}
 use Rattle.lexer.proofs.Facts.Sound.{Sound, reads, stops, kind-in, token-sound, escape-sound}
@@ -69,14 +69,13 @@ mutual
       let o = past-on textByte s at h in
       let a = past textByte s at in
       ap (after (text at a) [])
-      (alike _≡_ (eqb (byte s a) 0x22) _ _ _ _ (λ e. refl)
-      (λ e. alike _≡_ (eqb (byte s a) 0x5C) _ _ _ _
+      (alike _≡_ (eqb (byte s a) 0x5C) _ _ _ _
       (λ f. let g : a < length s = byte-is s a 0x5C (omega arith) f in
       then-same _ _ s (a + 1) (a + 1) _ _
       (escape-fuel k l s n (a + 1) (omega arith) (omega (arith, o .low)) (omega (arith, o .low)))
       (escape-sound k s n (a + 1) (omega arith))
       (λ b z. parts-fuel k l s n b (z .high) (omega (arith, o .low, z .low)) (omega (arith, o .low, z .low))))
-      (λ f. refl)))
+      (λ f. refl))
 
   pub escape-fuel : (k l : ℕ) (s : List ℕ) (n at : ℕ) → at ≤ length s → 3 * (length s - at) < k → 3 * (length s - at) < l → escape k s n at ≡ escape l s n at
   escape-fuel zero l s n at h p q = absurd (omega arith)

@@ -16,7 +16,7 @@ use Rattle.lexer.specs.Sym.{operator}
 use Rattle.lexer.specs.Kind.{kind}
 use Rattle.lexer.specs.Escape.{named, hexDigit, hexes, surrogate, unicode, simple}
 use Rattle.lexer.specs.Read.{Read, read, deep, after, andThen, enclose}
-use Rattle.lexer.specs.Lex.{leafAt, closing, close, textByte, text, tokens, token, block, str, parts, escape, rest, whole}
+use Rattle.lexer.specs.Lex.{leafAt, closing, close, textByte, text, quote, tokens, token, block, str, parts, escape, rest, whole}
 use Rattle.lexer.proofs.Facts.Cases.{either}
 use Rattle.lexer.proofs.Facts.Onward.{Onward, byte-is, past-on, space-on}
 use Rattle.lexer.proofs.Facts.Sound.{Sound, kind-in, tokens-sound, token-sound, escape-sound}
@@ -87,7 +87,7 @@ paren-kind b e = rw e
 -- ---- the cycle
 
 mutual
-  unfolding tokens
+  unfolding tokens quote
 
   pub tokens-breaks : (k : ℕ) (s : List ℕ) (n at : ℕ) → at ≤ length s → 3 * (length s - at) < k → Breaks s (at + n) (tokens k s n at)
   tokens-breaks zero s n at h p = absurd (omega arith)
@@ -135,14 +135,13 @@ mutual
       let o = past-on textByte s at h in
       let a = past textByte s at in
       after-breaks s (at + n) (text at a) []
-      (either (Breaks s (at + n)) (eqb (byte s a) 0x22) _ _ (λ e. reads)
-      (λ e. either (Breaks s (at + n)) (eqb (byte s a) 0x5C) _ _
+      (either (Breaks s (at + n)) (eqb (byte s a) 0x5C) _ _
       (λ f. let g : a < length s = byte-is s a 0x5C (omega arith) f in
       fewer s (a + 1 + n) (at + n) (omega (arith, o .low))
       (then-breaks s (a + 1 + n) (a + 1) (a + 1) _
       (escape-breaks k s n (a + 1) (omega arith) (omega (arith, o .low))) (escape-sound k s n (a + 1) (omega arith))
       (λ b z. fewer s (b + n) (a + 1 + n) (omega (arith, z .low)) (parts-breaks k s n b (z .high) (omega (arith, o .low, z .low))))))
-      (λ f. reads)))
+      (λ f. either (Breaks s (at + n)) (eqb (byte s a) 0x22) _ _ (λ e. reads) (λ e. reads)))
 
   pub escape-breaks : (k : ℕ) (s : List ℕ) (n at : ℕ) → at ≤ length s → 3 * (length s - at) < k → Breaks s (at + n) (escape k s n at)
   escape-breaks zero s n at h p = absurd (omega arith)

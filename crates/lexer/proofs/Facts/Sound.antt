@@ -15,7 +15,7 @@ use Rattle.lexer.specs.Sym.{operator}
 use Rattle.lexer.specs.Kind.{kind, plain}
 use Rattle.lexer.specs.Escape.{named, hexDigit, hexes, surrogate, unicode, simple}
 use Rattle.lexer.specs.Read.{Read, read, deep, nothing, found, wrong, after, andThen, enclose}
-use Rattle.lexer.specs.Lex.{leafAt, closing, close, textByte, text, tokens, token, block, str, parts, escape, rest, whole}
+use Rattle.lexer.specs.Lex.{leafAt, closing, close, textByte, text, quote, tokens, token, block, str, parts, escape, rest, whole}
 use Rattle.lexer.proofs.Facts.Cases.{either}
 use Rattle.lexer.proofs.Facts.Onward.{Onward, stay, byte-in, byte-is, past-on, space-on}
 use Rattle.lexer.proofs.Facts.Shape.{Lies, Row, Rising, stands}
@@ -156,6 +156,14 @@ pub kind-in : (s : List ℕ) (at : ℕ) → (kind (byte s at) ≡ 0 → ⊥) →
 unfolding kind letter digit operator
 kind-in s at f = byte-in s at (λ z. f (rw z))
 
+quote-sound : (s : List ℕ) (a : ℕ) → a ≤ length s → Sound s a a (quote s a)
+unfolding quote
+quote-sound s a h =
+    either (Sound s a a) (eqb (byte s a) 0x22) _ _
+    (λ e. let k : a < length s = byte-is s a 0x22 (omega arith) e in
+    weaker s a (a + 1) a a (omega arith) (omega arith) (nothing-sound s a (a + 1) (record { low = omega arith; high = omega arith })))
+    (λ e. wrong-at _ s a a (stay s a h))
+
 mutual
   unfolding tokens
 
@@ -197,17 +205,13 @@ mutual
   parts-sound (suc k) s n at h =
       let o = past-on textByte s at h in
       let a = past textByte s at in
-      let here : Onward s a a = stay s a (o .high) in
       after-sound s at a at (text at a) [] (text-row at a (o .low)) (rising-none at a (o .low))
-      (either (Sound s a at) (eqb (byte s a) 0x22) _ _
-      (λ e. let k : a < length s = byte-is s a 0x22 (omega arith) e in
-      weaker s a (a + 1) a at (omega arith) (omega (arith, o .low)) (nothing-sound s a (a + 1) (record { low = omega arith; high = omega arith })))
-      (λ e. either (Sound s a at) (eqb (byte s a) 0x5C) _ _
+      (either (Sound s a at) (eqb (byte s a) 0x5C) _ _
       (λ f. let g : a < length s = byte-is s a 0x5C (omega arith) f in
       weaker s (a + 1) (a + 1) a at (omega arith) (omega (arith, o .low))
       (then-sound s (a + 1) (a + 1) (a + 1) _ (escape-sound k s n (a + 1) (omega arith))
       (λ b p. weaker s b b b (a + 1) (omega arith) (p .low) (parts-sound k s n b (p .high)))))
-      (λ f. weaker s a a a at (omega arith) (o .low) (wrong-at _ s a a here))))
+      (λ f. weaker s a a a at (omega arith) (o .low) (quote-sound s a (o .high))))
 
   pub escape-sound : (k : ℕ) (s : List ℕ) (n at : ℕ) → at ≤ length s → Sound s at at (escape k s n at)
   escape-sound zero s n at h = stops (stay s at h)

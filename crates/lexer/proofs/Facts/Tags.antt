@@ -17,7 +17,7 @@ use Rattle.lexer.specs.Sym.{operator}
 use Rattle.lexer.specs.Kind.{kind, plain}
 use Rattle.lexer.specs.Escape.{named, hexDigit, hexes, surrogate, unicode, simple}
 use Rattle.lexer.specs.Read.{Read, read, deep, after, andThen, enclose}
-use Rattle.lexer.specs.Lex.{leafAt, closing, close, textByte, text, tokens, token, block, str, parts, escape, rest, whole}
+use Rattle.lexer.specs.Lex.{leafAt, closing, close, textByte, text, quote, tokens, token, block, str, parts, escape, rest, whole}
 use Rattle.lexer.proofs.Facts.Cases.{either}
 
 -- a token at the top or in a block: Word, Var, Fmt, Num or Sym, a string of parts, a block of such tokens. A part of a string: a text part, a character,
@@ -141,7 +141,7 @@ string-encloses at (reads {b} {ts} m) = reads {ts = one (group 0x06 at (b - at) 
 string-encloses at stops = stops
 
 mutual
-  unfolding tokens Member
+  unfolding tokens quote Member
 
   pub tokens-tags : (k : ℕ) (s : List ℕ) (n at : ℕ) → Finds Members (tokens k s n at)
   tokens-tags zero s n at = stops
@@ -172,10 +172,9 @@ mutual
   parts-tags (suc k) s n at =
       let a = past textByte s at in
       after-finds Parts parts-join (text at a) [] (text-parts at a)
-      (either (Finds Parts) (eqb (byte s a) 0x22) _ _ (λ e. reads tt)
-      (λ e. either (Finds Parts) (eqb (byte s a) 0x5C) _ _
+      (either (Finds Parts) (eqb (byte s a) 0x5C) _ _
       (λ f. then-finds Parts parts-join _ (escape-tags k s n (a + 1)) (λ b. parts-tags k s n b))
-      (λ f. reads tt)))
+      (λ f. either (Finds Parts) (eqb (byte s a) 0x22) _ _ (λ e. reads tt) (λ e. reads tt)))
 
   pub escape-tags : (k : ℕ) (s : List ℕ) (n at : ℕ) → Finds Parts (escape k s n at)
   escape-tags zero s n at = stops
