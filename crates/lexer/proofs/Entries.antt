@@ -86,10 +86,11 @@ module _ (s d : List ℕ) (z : deepness (whole s) ≡ 0) where
     errors-told d′ k e h b l = record { answers = rw (due-errors (whole s) z some) (listed 1 k (errorsDue (whole s)) d d′ e (omega arith) l); few = b; near = omega arith }
 
 -- what went into the scratch whole can be taken out of it
-pub scratched : (x x′ bs : List ℕ) → x′ ≡ overlay x 0 bs → length bs ≤ length x′ → take (length bs) x′ ≡ bs
-scratched x x′ bs e h =
-    let l : length x′ ≡ length x = ap length e ∙ length-overlay x 0 bs in
-    rw (e, overlay-front x bs (omega arith)) (take-at bs (drop (length bs) x) (length bs) refl)
+pub scratched : (x x′ bs : List ℕ) (k : ℕ) → Put x 0 bs x′ k → k ≤ length x′ → take k x′ ≡ bs
+scratched x x′ bs k w h =
+    let l : length x′ ≡ length x = ap length (w .room) ∙ length-overlay x 0 bs in
+    let n : k ≡ length bs = omega (arith, w .next) in
+    rw (n, w .room, overlay-front x bs (omega arith)) (take-at bs (drop (length bs) x) (length bs) refl)
 
 -- ---- the entry
 

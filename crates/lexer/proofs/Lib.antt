@@ -16,3 +16,4 @@ pub mod Hexes
 pub mod Escapes
 pub mod Facts
 pub mod Entries
+pub mod Wholes
