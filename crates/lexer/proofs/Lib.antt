@@ -14,3 +14,4 @@ pub mod Spacing
 pub mod Readings
 pub mod Hexes
 pub mod Escapes
+pub mod Pieces
