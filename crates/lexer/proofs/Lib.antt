@@ -15,3 +15,4 @@ pub mod Readings
 pub mod Hexes
 pub mod Escapes
 pub mod Pieces
+pub mod Members
