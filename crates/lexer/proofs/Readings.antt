@@ -86,10 +86,14 @@ is-enclose tag (read at ts es) st p r e d d₁ d₂ x x₁ i h g =
     let l : o + 7 ≡ o + length c = ap (λ (n : ℕ). o + n) (sym (length-pair tag (st .at) (at - st .at))) in
     let a : overlay d₁ (p .tokens) (field 0x09 []) ≡ overlay d (o + 7) (m ++ field 0x09 []) = rw (f .tokens .next, f .tokens .room) (overlay-append d (o + 7) m (field 0x09 [])) in
     let b : d₂ ≡ overlay d o (c ++ (m ++ field 0x09 [])) = g .room ∙ rw (k, a, l) (overlay-before d o c (m ++ field 0x09 [])) in
-    record { says = record {
-      fine = g .fine;
-      is = g .at ∙ f .is;
-      tokens = rw append-nil (record {
-        next = omega (arith, g .tokens, f .tokens .next, length-append c (m ++ field 0x09 []), length-append m (field 0x09 []), length-pair tag (st .at) (at - st .at), length-end);
-        room = b });
-      errors = rw (g .errors) (f .errors) } }
+    record {
+      says = record {
+        fine = g .fine;
+        is = g .at ∙ f .is;
+        tokens = rw append-nil (record {
+          next = omega (arith, g .tokens, f .tokens .next, length-append c (m ++ field 0x09 []), length-append m (field 0x09 []), length-pair tag (st .at) (at - st .at), length-end);
+          room = b;
+        });
+        errors = rw (g .errors) (f .errors);
+      };
+    }
