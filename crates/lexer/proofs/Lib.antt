@@ -17,3 +17,5 @@ pub mod Escapes
 pub mod Facts
 pub mod Entries
 pub mod Wholes
+pub mod Pieces
+pub mod Members

@@ -1,13 +1,16 @@
 -- What is read, put together: the laws that the returns of the reading functions cite. Assumes nothing.
 use mathlib.Core.Path.{_≡_, refl, sym, ap, _∙_}
-use mathlib.Core.List.{List, [], _∷_, _++_}
+use mathlib.Core.List.{List, [], _∷_, _++_, append-nil}
 use Prim.Native.Nat.{ℕ, zero, suc, _+_, _-_, _*_, _≤_, _<_}
 use native.Mathlib.Omega.{arith}
-use lib.ListN.{length}
+use lib.ListN.{length, length-append}
+use Rattle.fields.specs.Number.{number}
+use Rattle.fields.specs.Field.{field}
+use Rattle.fields.specs.Room.{overlay, overlay-append, overlay-before}
 use Rattle.lexer.specs.Token.{Token, Tokens, none, one, join, Expect, closer, Error, missing}
 use Rattle.lexer.specs.Read.{Read, read, deep, nothing, found, wrong, after, andThen, enclose}
-use Rattle.lexer.specs.Listing.{errorTag, opener, tokensBytes, errorsBytes}
-use Rattle.lexer.specs.Meets.{Put, Puts, Erred, Found, Says, Is}
+use Rattle.lexer.specs.Listing.{pair, tokensBytes, errorsBytes}
+use Rattle.lexer.specs.Meets.{Put, Found, Says, Is, Encloses}
 use Rattle.lexer.specs.declared.scan.State.{State}
 use Rattle.lexer.proofs.Puts.{put-none, put-then}
 use Rattle.lexer.proofs.Appends.{errors-append, tokens-append}
@@ -54,3 +57,43 @@ pub is-stop : (q : Read) (f : ℕ → Read) (o e : ℕ) (d d₁ x x₁ : List �
 unfolding andThen
 is-stop (deep z) f o e d d₁ x x₁ p i h = record { says = i .says }
 is-stop (read at ts es) f o e d d₁ x x₁ p i h = absurd (h (i .says .fine))
+
+-- nesting is refused inside a group
+pub is-enclose-stop : (tag start : ℕ) (q : Read) (o o′ e e′ : ℕ) (d d′ d₁ x x′ x₁ : List ℕ) (p : State) → Is q o e d d₁ x x₁ p → (p .deep ≡ 0 → ⊥) → Is (enclose tag start q) o′ e′ d′ d₁ x′ x₁ p
+unfolding enclose
+is-enclose-stop tag start (deep z) o o′ e e′ d d′ d₁ x x′ x₁ p i h = record { says = i .says }
+is-enclose-stop tag start (read at ts es) o o′ e e′ d d′ d₁ x x′ x₁ p i h = absurd (h (i .says .fine))
+
+length-pair : (tag a b : ℕ) → length (pair 2 tag a b) ≡ 7
+unfolding pair field number
+length-pair tag a b = refl
+
+length-end : length (field 0x09 []) ≡ 3
+unfolding field number
+length-end = refl
+
+-- a group: its members were put seven bytes on, then its end behind them and its record before them
+pub is-enclose : (tag : ℕ) (q : Read) (st p r : State) (e : ℕ) (d d₁ d₂ x x₁ : List ℕ) → Is q (st .tokens + 7) e d d₁ x x₁ p → p .deep ≡ 0 → Encloses tag st p d₁ d₂ r
+    → Is (enclose tag (st .at) q) (st .tokens) e d d₂ x x₁ r
+unfolding enclose tokensBytes
+is-enclose tag (deep z) st p r e d d₁ d₂ x x₁ i h g = absurd (omega (arith, i .says))
+is-enclose tag (read at ts es) st p r e d d₁ d₂ x x₁ i h g =
+    let f = i .says in
+    let o = st .tokens in
+    let m = tokensBytes 2 ts in
+    let c = pair 2 tag (st .at) (at - st .at) in
+    let k : pair 2 tag (st .at) (p .at - st .at) ≡ c = ap (λ (n : ℕ). pair 2 tag (st .at) (n - st .at)) (f .is) in
+    let l : o + 7 ≡ o + length c = ap (λ (n : ℕ). o + n) (sym (length-pair tag (st .at) (at - st .at))) in
+    let a : overlay d₁ (p .tokens) (field 0x09 []) ≡ overlay d (o + 7) (m ++ field 0x09 []) = rw (f .tokens .next, f .tokens .room) (overlay-append d (o + 7) m (field 0x09 [])) in
+    let b : d₂ ≡ overlay d o (c ++ (m ++ field 0x09 [])) = g .room ∙ rw (k, a, l) (overlay-before d o c (m ++ field 0x09 [])) in
+    record {
+      says = record {
+        fine = g .fine;
+        is = g .at ∙ f .is;
+        tokens = rw append-nil (record {
+          next = omega (arith, g .tokens, f .tokens .next, length-append c (m ++ field 0x09 []), length-append m (field 0x09 []), length-pair tag (st .at) (at - st .at), length-end);
+          room = b;
+        });
+        errors = rw (g .errors) (f .errors);
+      };
+    }
