@@ -27,14 +27,16 @@ module _ (s : List ℕ) (p : State) (at : ℕ) (e : at ≡ space s (p .at)) (x :
   rest-wrong k x′ h w = record {
     is = λ d. rw (← e) (simp (lt-ltb at (length s) h) (is-wrong Expect.any at (p .tokens) (p .errors) k d x x′ (w .put Expect.any refl refl)));
     tokens = refl;
-    errors = omega (arith, w .size) }
+    errors = omega (arith, w .size);
+  }
 
   pub rest-none : length s ≤ at → Rests s p x x (record { at = at; tokens = p .tokens; errors = p .errors; deep = 0 })
   unfolding rest
   rest-none h = record {
     is = λ d. rw (← e) (simp (le-ltb at (length s) h) (is-nothing at (p .tokens) (p .errors) d x));
     tokens = refl;
-    errors = omega arith }
+    errors = omega arith;
+  }
 
 -- ---- the editions first
 
@@ -55,7 +57,8 @@ listed-from (read at ts es) o e d d₁ d₂ x x₁ x₂ r a b i m n = record {
   tokens = λ h. put-then d d₁ d₂ 0 o (r .tokens) _ _ a (i .says .tokens);
   errors = λ h. put-then x x₁ x₂ 0 e (r .errors) _ _ b (i .says .errors);
   few = m;
-  faults = n }
+  faults = n;
+}
 
 module _ (s d d₁ d₂ x x₁ x₂ : List ℕ) (o e : ℕ) (h : length s ≤ 32768)
     (eo : o ≡ 0 + 4) (ed : d₁ ≡ overlay d 0 (0 ∷ 1 ∷ 0 ∷ 1 ∷ [])) (ee : e ≡ 0 + 4) (ex : x₁ ≡ overlay x 0 (0 ∷ 1 ∷ 0 ∷ 1 ∷ [])) (p : State)

@@ -16,7 +16,6 @@ ghost use Rattle.lexer.specs.Lex.{whole};
 ghost use Rattle.lexer.specs.Lexing.{listed};
 ghost use Rattle.lexer.specs.Meets.{Ready};
 ghost use Rattle.lexer.specs.Due.{deepness, tokensDue, errorsDue, refusedAs, Rests, Listed, Told, Lexed};
-
 use fields::Answer;
 use scan::State;
 

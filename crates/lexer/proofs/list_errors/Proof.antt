@@ -17,7 +17,7 @@ refused-requires c κs = search needs
 
 -- src/lib.rt:82:9
 returns : tie.Need-returns
-returns c = 
+returns c =
     let p = c .before .before .before .before .pre in
     rw (c .refused .ensures) (errors-short _ _ (p .1) (omega arith) (omega arith))
 
@@ -39,7 +39,7 @@ same-length c = search needs
 
 -- src/lib.rt:77:1
 returns-2 : tie.Need-returns-2
-returns-2 c = 
+returns-2 c =
     let p = c .before .before .before .before .before .before .before .before .before .pre in
     let w = c .before .before .before .whole .ensures .errors (p .1) in
     errors-told _ _ (p .1) (omega arith) _ _ (p .2) (c .before .before .before .before .before .before .if1 .left) (p .4) (w .room)

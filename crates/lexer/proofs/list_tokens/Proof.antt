@@ -21,7 +21,7 @@ refused-requires c κs = search needs
 
 -- src/lib.rt:99:9
 returns : tie.Need-returns
-returns c = 
+returns c =
     let p = c .before .before .before .before .before .pre in
     rw (c .refused .ensures) (tokens-short _ _ (p .1) (p .2) (omega arith))
 
@@ -73,7 +73,7 @@ same-length-3 c = search needs
 
 -- src/lib.rt:94:1
 returns-3 : tie.Need-returns-3
-returns-3 c = 
+returns-3 c =
     let p = c .before .before .before .before .before .before .before .before .before .before .before .pre in
     let w = c .before .before .before .whole .ensures .tokens (p .1) in
     tokens-told _ _ (p .1) (p .2) _ _ (p .3) (c .before .before .before .before .before .before .before .if1 .left) (p .4) (w .room)

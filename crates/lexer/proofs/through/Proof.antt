@@ -38,13 +38,13 @@ same-length c = search needs
 
 -- src/lib.rt:123:9
 returns : tie.Need-returns
-returns c = 
+returns c =
     let w = c .before .before .before .before .before .before .before .whole .ensures in
     rw (c .refused .ensures) (told-deep _ _ _ (c .before .before .before .before .before .before .before .before .before .before .before .before .before .pre) (w .nesting) (c .before .before .if1 .taken))
 
 -- src/lib.rt:126:9
 list-errors-requires : tie.Need-list-errors-requires
-list-errors-requires c κs = 
+list-errors-requires c κs =
     let w = c .before .before .before .before .before .before .before .before .whole .ensures in
     let z = sym (w .nesting) ∙ c .before .before .before .if1 .left in
     (c .before .before .before .before .before .before .before .before .before .before .before .before .before .before .pre, z, omega (arith, w .errors z .next), c .before .if2 .taken, w .faults)
@@ -63,7 +63,7 @@ returns-2 c = search needs
 
 -- src/lib.rt:128:5
 list-tokens-requires : tie.Need-list-tokens-requires
-list-tokens-requires c κs = 
+list-tokens-requires c κs =
     let w = c .before .before .before .before .before .before .before .before .before .whole .ensures in
     let z = sym (w .nesting) ∙ c .before .before .before .before .if1 .left in
     (c .before .before .before .before .before .before .before .before .before .before .before .before .before .before .before .pre, z, omega (arith, w .errors z .next), omega (arith, w .tokens z .next), w .few, λ h. scratched _ _ _ _ (w .tokens z) h)
