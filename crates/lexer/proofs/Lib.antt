@@ -19,3 +19,5 @@ pub mod Entries
 pub mod Wholes
 pub mod Pieces
 pub mod Members
+pub mod Parts
+pub mod Holding

@@ -13,4 +13,6 @@ pub mod Listing
 pub mod Lexing
 pub mod Meets
 pub mod Due
+pub mod Found
+pub mod Input
 pub mod Examples

@@ -1,14 +1,24 @@
-// The lexer: jq source to a listing of its tokens, or of what is wrong with it.
+// The lexer: jq source in, a listing of its tokens out, or of what is wrong with it.
+//
+// A refusal changes no lent byte, and whether a listing fits is known only at its end. So the tokens are first read into
+// scratch of the entry's own, which need not be large enough: what does not fit there is counted, and read again straight
+// into the room lent. Errors are counted in the first reading and put by a second.
 mod class;
 mod cycle;
 mod escape;
+mod input;
 mod num;
+mod part;
 mod put;
 mod scan;
 mod space;
 mod sym;
+mod token;
 mod word;
 
+pub use input::Lexer;
+pub use token::Found;
+pub use token::Token;
 ghost use mathlib.Core.Path.{_≡_};
 ghost use Prim.Native.Nat.{_+_, _≤_, _<_};
 ghost use lib.ListN.{length, take};
