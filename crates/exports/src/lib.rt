@@ -3,6 +3,7 @@
 ghost use mathlib.Core.Path.{_≡_};
 ghost use Prim.Native.Nat.{_<_, _^_};
 ghost use Rattle.climber.specs.Climbing.{climbing};
+ghost use Rattle.lexer.specs.Lexing.{lexing};
 ghost use Rattle.exports.specs.Packed.{packed, Packs};
 use fields::Answer;
 
@@ -20,4 +21,11 @@ pub extern "C" fn filter_climb(row: &[u8], out: &mut [u8]) -> u64
     ensures { λ r. ⌜ Packs (climbing (now (row .entry))) (now (out .entry)) (now (out .exit)) r ⌝ }
 {
     pack(climber::climb(row, out))
+}
+
+#[no_mangle]
+pub extern "C" fn filter_lex(source: &[u8], out: &mut [u8]) -> u64
+    ensures { λ r. ⌜ Packs (lexing (now (source .entry))) (now (out .entry)) (now (out .exit)) r ⌝ }
+{
+    pack(lexer::lex(source, out))
 }
