@@ -91,19 +91,34 @@ going-next b p n x q g h m i u v =
 pub going-start : (b : List ℕ) → Local b (length b) (rowAt 0) 0 → Going b 0
 going-start b r = record { high = omega arith; root = r; yes = λ a. a; no = λ a. a }
 
-pub going-leaf : (b : List ℕ) (p e s : ℕ) → Going b p → p < length b → e ≡ endOf b p → e ≤ length b → s ≡ shape (getD b p 0) → 200 ≤ s → true ≡ leafOk s (part b (p + 3) e) → Going b e
-going-leaf b p e s g h u m k l t =
-    let f : endOf b p ≤ length b = omega arith in
-    let z : e - (p + 3) ≡ getD b (p + 1) 0 + getD b (p + 2) 0 * 256 = omega arith in
-    let w : isLeaf (getD b p 0) ≡ true = ap (leb 200) (sym k) ∙ le-leb 200 s l in
-    let t′ : leafOk (shape (getD b p 0)) (textOf b p) ≡ true = ap₂ leafOk (sym k) (ap (λ (n : ℕ). take n (drop (p + 3) b)) (sym z)) ∙ sym t in
-    going-next b p e true w g h f t′ u m
+-- the content of the field at p, decided as that of a leaf or as a row
+module _ (b : List ℕ) (p e s : ℕ) (r : Bool) (u : e ≡ endOf b p) (k : s ≡ shape (getD b p 0)) where
+  pub content-leaf : 200 ≤ s → r ≡ leafOk s (part b (p + 3) e) → Decided r (Inner (isLeaf (getD b p 0)) b p)
+  content-leaf l t =
+      let z : e - (p + 3) ≡ getD b (p + 1) 0 + getD b (p + 2) 0 * 256 = omega arith in
+      let w : isLeaf (getD b p 0) ≡ true = ap (leb 200) (sym k) ∙ le-leb 200 s l in
+      subst (λ (y : Bool). Decided r (Inner y b p)) (sym w) (told r (t ∙ ap₂ leafOk k (ap (λ (n : ℕ). take n (drop (p + 3) b)) z)))
+    where
+      told : (x : Bool) → x ≡ leafOk (shape (getD b p 0)) (textOf b p) → Decided x (Inner true b p)
+      told true q = sym q
+      told false q = λ h. not-both (leafOk (shape (getD b p 0)) (textOf b p)) h (sym q)
 
-pub going-row : (b : List ℕ) (p e s : ℕ) → Going b p → p < length b → e ≡ endOf b p → e ≤ length b → s ≡ shape (getD b p 0) → s < 200 → Local b e (rowAt s) (p + 3) → Going b (p + 3)
-going-row b p e s g h u m k l r =
-    let f : endOf b p ≤ length b = omega arith in
-    let w : isLeaf (getD b p 0) ≡ false = ap (leb 200) (sym k) ∙ lt-leb 200 s l in
-    going-next b p (p + 3) false w g h f (subst (λ (j : ℕ). Local b (endOf b p) (rowAt j) (p + 3)) k (subst (λ (j : ℕ). Local b j (rowAt s) (p + 3)) u r)) refl (omega arith)
+  pub content-row : s < 200 → Decided r (Local b e (rowAt s) (p + 3)) → Decided r (Inner (isLeaf (getD b p 0)) b p)
+  content-row l d =
+      let w : isLeaf (getD b p 0) ≡ false = ap (leb 200) (sym k) ∙ lt-leb 200 s l in
+      subst (λ (y : Bool). Decided r (Inner y b p)) (sym w)
+      (subst (λ (j : ℕ). Decided r (Local b (endOf b p) (rowAt j) (p + 3))) k (subst (λ (j : ℕ). Decided r (Local b j (rowAt s) (p + 3))) u d))
+
+module _ (b : List ℕ) (p e s : ℕ) (g : Going b p) (h : p < length b) (u : e ≡ endOf b p) (m : e ≤ length b) (k : s ≡ shape (getD b p 0)) (i : Inner (isLeaf (getD b p 0)) b p) where
+  pub going-leaf : 200 ≤ s → Going b e
+  going-leaf l =
+      let w : isLeaf (getD b p 0) ≡ true = ap (leb 200) (sym k) ∙ le-leb 200 s l in
+      going-next b p e true w g h (omega arith) (subst (λ (y : Bool). Inner y b p) w i) u m
+
+  pub going-row : s < 200 → Going b (p + 3)
+  going-row l =
+      let w : isLeaf (getD b p 0) ≡ false = ap (leb 200) (sym k) ∙ lt-leb 200 s l in
+      going-next b p (p + 3) false w g h (omega arith) (subst (λ (y : Bool). Inner y b p) w i) refl (omega arith)
 
 pub wrong-root : (b : List ℕ) → (Local b (length b) (rowAt 0) 0 → ⊥) → Wf b → ⊥
 wrong-root b f w = f (w .root)
@@ -111,17 +126,8 @@ wrong-root b f w = f (w .root)
 pub wrong-fits : (b : List ℕ) (p : ℕ) → Going b p → p < length b → (endOf b p ≤ length b → ⊥) → Wf b → ⊥
 wrong-fits b p g h f w = f (all-fits b p h (g .no (w .all)))
 
-pub wrong-leaf : (b : List ℕ) (p e s : ℕ) → Going b p → p < length b → e ≡ endOf b p → s ≡ shape (getD b p 0) → 200 ≤ s → false ≡ leafOk s (part b (p + 3) e) → Wf b → ⊥
-wrong-leaf b p e s g h u k l t w =
-    let z : e - (p + 3) ≡ getD b (p + 1) 0 + getD b (p + 2) 0 * 256 = omega arith in
-    let x : isLeaf (getD b p 0) ≡ true = ap (leb 200) (sym k) ∙ le-leb 200 s l in
-    let t′ : leafOk (shape (getD b p 0)) (textOf b p) ≡ false = ap₂ leafOk (sym k) (ap (λ (n : ℕ). take n (drop (p + 3) b)) (sym z)) ∙ sym t in
-    not-both (leafOk (shape (getD b p 0)) (textOf b p)) (subst (λ (y : Bool). Inner y b p) x (all-inner b p h (g .no (w .all)))) t′
-
-pub wrong-row : (b : List ℕ) (p e s : ℕ) → Going b p → p < length b → e ≡ endOf b p → s ≡ shape (getD b p 0) → s < 200 → (Local b e (rowAt s) (p + 3) → ⊥) → Wf b → ⊥
-wrong-row b p e s g h u k l f w =
-    let x : isLeaf (getD b p 0) ≡ false = ap (leb 200) (sym k) ∙ lt-leb 200 s l in
-    f (subst (λ (j : ℕ). Local b j (rowAt s) (p + 3)) (sym u) (subst (λ (j : ℕ). Local b (endOf b p) (rowAt j) (p + 3)) (sym k) (subst (λ (y : Bool). Inner y b p) x (all-inner b p h (g .no (w .all))))))
+pub wrong-content : (b : List ℕ) (p : ℕ) → Going b p → p < length b → (Inner (isLeaf (getD b p 0)) b p → ⊥) → Wf b → ⊥
+wrong-content b p g h f w = f (all-inner b p h (g .no (w .all)))
 
 pub right : (b : List ℕ) (p : ℕ) → Going b p → length b ≤ p → Wf b
 right b p g h = let k : p ≡ length b = omega (arith, g .high) in record { root = g .root; all = g .yes (over k) }

@@ -12,7 +12,7 @@ ghost use Rattle.tree.specs.Table.{table};
 ghost use Rattle.tree.specs.Leaf.{both, class, shape, isLeaf, leafOk, text, isOperator};
 ghost use Rattle.tree.specs.Grammar.{term, rowAt, after, ends};
 ghost use Rattle.tree.specs.Rose.{endOf};
-ghost use Rattle.tree.specs.Scan.{Local, nextOf};
+ghost use Rattle.tree.specs.Scan.{Local, Inner, nextOf};
 ghost use Rattle.tree.specs.Tree.{Tree, Uses};
 ghost use Rattle.tree.specs.Form.{At};
 ghost use Rattle.tree.specs.Numbers.{below, usesBelow, numbered, Held, Using, From};
@@ -214,9 +214,20 @@ fn mark(on: bool) -> usize
     0
 }
 
-// Are the bytes those of a tree, its module numbers aside?
-fn formed(t: &[u8], b: &[u8]) -> Found
-    requires { ⌜ (length (now b) ≤ 32768) × (now t ≡ table) ⌝ }
+// Is the content right of the field at p, which ends at e and has the shape s?
+fn content_ok(t: &[u8], b: &[u8], p: usize, e: usize, s: usize) -> bool
+    requires { ⌜ (e ≡ endOf (now b) p) × (e ≤ length (now b)) × (length (now b) ≤ 32768) × (s ≡ shape (getD (now b) p 0)) × (s < 200 → s < 106) × (now t ≡ table) ⌝ }
+    ensures { λ r. ⌜ Decided r (Inner (isLeaf (getD (now (b .entry)) p 0)) (now (b .entry)) p) ⌝ }
+{
+    if s >= 200 {
+        return leaf_ok(b, p + 3, e, s);
+    }
+    row(t, b, p + 3, e, s)
+}
+
+// Is each header right? The bytes themselves are one field of a tree.
+fn each_header(t: &[u8], b: &[u8]) -> Found
+    requires { ⌜ (length (now b) ≤ 32768) × (now t ≡ table) × Local (now b) (length (now b)) (rowAt 0) 0 ⌝ }
     ensures { λ r. ⌜ Formed (now (b .entry)) r ⌝ }
 {
     let n = b.len();
@@ -225,43 +236,51 @@ fn formed(t: &[u8], b: &[u8]) -> Found
         nodes: 0,
         definitions: 0,
     };
-    if row(t, b, 0, n, 0) {
-        let mut p = 0;
-        let mut nodes = 0;
-        let mut definitions = 0;
-        while p < n {
-            if n - p < 3 {
-                return bad;
-            }
-            let e = end_of(b, p);
-            if e > n {
-                return bad;
-            }
-            let k = b[p];
-            let s = table::shape(t, k);
-            if s >= 200 {
-                if leaf_ok(b, p + 3, e, s) {
-                    p = e;
-                } else {
-                    return bad;
-                }
-            } else {
-                if row(t, b, p + 3, e, s) {
-                    definitions += mark(k == 0x8C);
-                    nodes += 1;
-                    p += 3;
-                } else {
-                    return bad;
-                }
-            }
+    let mut p = 0;
+    let mut nodes = 0;
+    let mut definitions = 0;
+    while p < n {
+        if n - p < 3 {
+            return bad;
         }
-        return Found {
-            ok: true,
-            nodes: nodes,
-            definitions: definitions,
-        };
+        let e = end_of(b, p);
+        if e > n {
+            return bad;
+        }
+        let k = b[p];
+        let s = table::shape(t, k);
+        if content_ok(t, b, p, e, s) {
+            if s >= 200 {
+                p = e;
+            } else {
+                definitions += mark(k == 0x8C);
+                nodes += 1;
+                p += 3;
+            }
+        } else {
+            return bad;
+        }
     }
-    bad
+    Found {
+        ok: true,
+        nodes: nodes,
+        definitions: definitions,
+    }
+}
+
+// Are the bytes those of a tree, its module numbers aside?
+fn formed(t: &[u8], b: &[u8]) -> Found
+    requires { ⌜ (length (now b) ≤ 32768) × (now t ≡ table) ⌝ }
+    ensures { λ r. ⌜ Formed (now (b .entry)) r ⌝ }
+{
+    if row(t, b, 0, b.len(), 0) {
+        return each_header(t, b);
+    }
+    Found {
+        ok: false,
+        nodes: 0,
+        definitions: 0,
+    }
 }
 
 // ---- module numbers
