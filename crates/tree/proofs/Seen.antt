@@ -4,11 +4,10 @@ use native.Mathlib.Nat.{add-zero, zero-add}
 use native.Mathlib.Omega.{arith}
 use mathlib.Core.Path.{_≡_, refl, sym, ap, subst, _∙_}
 use mathlib.Core.List.{List, []}
-use mathlib.Core.Bool.{Bool, true, false}
+use mathlib.Core.Bool.{true, false}
 use lib.Dec.{eqb, leb}
 use lib.ListN.{length, getD}
 use borrow.Author.Tests.{le-leb, lt-leb}
-use Rattle.tree.specs.declared.Found.{Found}
 use Rattle.tree.specs.Leaf.{shape, isLeaf}
 use Rattle.tree.specs.Rose.{endOf}
 use Rattle.tree.specs.Match.{not-both}

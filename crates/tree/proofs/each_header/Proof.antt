@@ -1,3 +1,4 @@
+-- `tree::each_header`: the headers from the loop's place on are right exactly if all are, and the counts are those of the headers passed. Assumes nothing.
 use native.Mathlib.Omega.{arith}
 use Prim.Native.Nat.{_-_}
 use lib.ListN.{length}
@@ -20,75 +21,57 @@ Inv-loop t b n bad p₀ nodes₀ definitions₀ p nodes definitions = Seen b p n
 abbrev μ-loop : tie.MeasureT-loop
 μ-loop t b n bad p₀ nodes₀ definitions₀ p nodes definitions = length b - p
 
--- src/lib.rt:242:5
 loop-holds : tie.Need-loop-holds Inv-loop μ-loop
 loop-holds c = seen-start _ (going-start _ (c .before .before .pre .2))
 
--- src/lib.rt:243:12
 sub-if1 : tie.Need-sub-if1 Inv-loop μ-loop
 sub-if1 c = search needs
 
--- src/lib.rt:244:13
 returns : tie.Need-returns Inv-loop μ-loop
 returns c = not-formed _ _ _ (wrong-fits _ _ (c .before .before .loop .inv .going) (c .before .loop-test .taken) (λ m. omega (arith, m, c .if1 .taken)))
 
--- src/lib.rt:246:13
 end-of-requires : tie.Need-end-of-requires Inv-loop μ-loop
 end-of-requires c κs = search needs
 
--- src/lib.rt:248:13
 returns-2 : tie.Need-returns-2 Inv-loop μ-loop
 returns-2 c = not-formed _ _ _ (wrong-fits _ _ (c .before .before .before .before .loop .inv .going) (c .before .before .before .loop-test .taken) (λ m. omega (arith, m, c .if2 .taken, c .before .end-of .ensures)))
 
--- src/lib.rt:250:17
 shared-slice-read-k : tie.Need-shared-slice-read-k Inv-loop μ-loop
 shared-slice-read-k c = search needs
 
--- src/lib.rt:251:13
 shape-requires : tie.Need-shape-requires Inv-loop μ-loop
 shape-requires c κs = search needs
 
--- src/lib.rt:252:12
 content-ok-requires : tie.Need-content-ok-requires Inv-loop μ-loop
 content-ok-requires c κs = (c .before .before .before .end-of .ensures, omega (arith, c .before .before .if2 .left), search needs, c .shape .ensures .0, c .shape .ensures .1, search needs)
 
--- src/lib.rt:242:5
 loop-less : tie.Need-loop-less Inv-loop μ-loop
 loop-less c = search needs
 
--- src/lib.rt:242:5
 loop-again : tie.Need-loop-again Inv-loop μ-loop
 loop-again c = seen-leaf _ _ _ _ _ (c .before .before .before .before .before .before .before .before .before .loop .inv) (c .before .before .before .before .before .before .before .before .loop-test .taken) (c .before .before .before .shape .ensures .0) _ (c .before .before .before .before .before .before .end-of .ensures) (omega (arith, c .if4 .taken)) (going-leaf _ _ _ _ (c .before .before .before .before .before .before .before .before .before .loop .inv .going) (c .before .before .before .before .before .before .before .before .loop-test .taken) (c .before .before .before .before .before .before .end-of .ensures) (omega (arith, c .before .before .before .before .before .if2 .left)) (c .before .before .before .shape .ensures .0) (said _ _ (c .before .before .content-ok .ensures) (c .before .if3 .taken)) (omega (arith, c .if4 .taken)))
 
--- src/lib.rt:256:32
 mark-requires : tie.Need-mark-requires Inv-loop μ-loop
 mark-requires c κs = search needs
 
--- src/lib.rt:256:17
 add-definitions : tie.Need-add-definitions Inv-loop μ-loop
 add-definitions c = omega (arith, c .mark .ensures .1, c .before .before .before .before .before .before .before .before .before .before .loop .inv .fewer, c .before .before .before .before .before .before .before .before .before .loop-test .taken)
 
--- src/lib.rt:257:17
 add-nodes : tie.Need-add-nodes Inv-loop μ-loop
 add-nodes c = omega (arith, c .before .before .before .before .before .before .before .before .before .before .loop .inv .few, c .before .before .before .before .before .before .before .before .before .loop-test .taken)
 
--- src/lib.rt:258:17
 add-p : tie.Need-add-p Inv-loop μ-loop
 add-p c = search needs
 
--- src/lib.rt:242:5
 loop-less-2 : tie.Need-loop-less-2 Inv-loop μ-loop
 loop-less-2 c = search needs
 
--- src/lib.rt:242:5
 loop-again-2 : tie.Need-loop-again-2 Inv-loop μ-loop
 loop-again-2 c = seen-node _ _ _ _ _ (c .before .before .before .before .before .before .before .before .before .before .loop .inv) (c .before .before .before .before .before .before .before .before .before .loop-test .taken) (c .before .before .before .before .shape .ensures .0) _ (omega (arith, c .before .if4 .left)) (c .mark .ensures) (going-row _ _ _ _ (c .before .before .before .before .before .before .before .before .before .before .loop .inv .going) (c .before .before .before .before .before .before .before .before .before .loop-test .taken) (c .before .before .before .before .before .before .before .end-of .ensures) (omega (arith, c .before .before .before .before .before .before .if2 .left)) (c .before .before .before .before .shape .ensures .0) (said _ _ (c .before .before .before .content-ok .ensures) (c .before .before .if3 .taken)) (omega (arith, c .before .if4 .left)))
 
--- src/lib.rt:261:13
 returns-3 : tie.Need-returns-3 Inv-loop μ-loop
 returns-3 c = not-formed _ _ _ (wrong-content _ _ (c .before .before .before .before .before .before .before .before .loop .inv .going) (c .before .before .before .before .before .before .before .loop-test .taken) (denied _ _ (c .before .content-ok .ensures) (c .if3 .left)))
 
--- src/lib.rt:229:1
 returns-4 : tie.Need-returns-4 Inv-loop μ-loop
 returns-4 c = seen-end _ _ _ _ (c .before .loop .inv) (omega (arith, c .loop-test .left))
 

@@ -1,3 +1,4 @@
+-- `tree::formed`: the bytes' own row, then each header. Assumes nothing.
 use Rattle.tree.proofs.Headers.{wrong-root}
 use Rattle.tree.proofs.Seen.{not-formed}
 use Rattle.tree.proofs.Decides.{said, denied}
@@ -9,19 +10,15 @@ use Rattle.tree.proofs.formed.Lts as lts
 use Rattle.tree.proofs.each_header.Reads as each-header-reads
 use Rattle.tree.proofs.row.Reads as row-reads
 
--- src/lib.rt:276:8
 row-requires : tie.Need-row-requires
 row-requires c κs = search needs
 
--- src/lib.rt:277:9
 each-header-requires : tie.Need-each-header-requires
 each-header-requires c κs = (search needs, search needs, said _ _ (c .before .row .ensures) (c .if1 .taken))
 
--- src/lib.rt:277:9
 returns : tie.Need-returns
 returns c = search needs
 
--- src/lib.rt:272:1
 returns-2 : tie.Need-returns-2
 returns-2 c = not-formed _ _ _ (wrong-root _ (denied _ _ (c .before .row .ensures) (c .if1 .left)))
 
