@@ -23,6 +23,9 @@ ghost use Rattle.tree.specs.Count.{Passed};
 ghost use Rattle.tree.specs.Formed.{Formed};
 
 // ---- rows of members
+//
+// A row of the table is gone along by the index of the item that is due. There are 106 items; the last, 105, is where no row goes on. The class of terms is
+// 18. A tag's shape is the index where its row starts, or from 200 on a kind of leaf.
 
 // Is the item one that takes terms beside its own class, and c the class of terms?
 fn mixes(it: u8, c: u8) -> bool
@@ -225,7 +228,8 @@ fn content_ok(t: &[u8], b: &[u8], p: usize, e: usize, s: usize) -> bool
     row(t, b, p + 3, e, s)
 }
 
-// Is each header right? The bytes themselves are one field of a tree.
+// Is each header right, where the bytes themselves are one field of a tree? That a field ends within the bytes follows from what was right before it; to
+// test it is cheaper than to say so of every field that is still to come.
 fn each_header(t: &[u8], b: &[u8]) -> Found
     requires { ⌜ (length (now b) ≤ 32768) × (now t ≡ table) × Local (now b) (length (now b)) (rowAt 0) 0 ⌝ }
     ensures { λ r. ⌜ Formed (now (b .entry)) r ⌝ }
