@@ -108,7 +108,7 @@ unfolding shape shapes
 no-leaf k l true e = not-both (isLeaf k) l (ap isLeaf (eqb-true k 0x8C e))
 no-leaf k l false e = refl
 
-leaf-none : (k : ℕ) → isLeaf k ≡ true → mark (counts 0x8C k) ≡ 0
+pub leaf-none : (k : ℕ) → isLeaf k ≡ true → mark (counts 0x8C k) ≡ 0
 unfolding counts
 leaf-none k l = no-leaf k l (eqb k 0x8C) refl
 

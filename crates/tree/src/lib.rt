@@ -12,7 +12,7 @@ ghost use Rattle.tree.specs.Table.{table};
 ghost use Rattle.tree.specs.Leaf.{both, class, shape, isLeaf, leafOk, text, isOperator};
 ghost use Rattle.tree.specs.Grammar.{term, rowAt, after, ends};
 ghost use Rattle.tree.specs.Rose.{endOf};
-ghost use Rattle.tree.specs.Scan.{Local, Inner, nextOf};
+ghost use Rattle.tree.specs.Scan.{Local, nextOf};
 ghost use Rattle.tree.specs.Tree.{Tree, Uses};
 ghost use Rattle.tree.specs.Form.{At};
 ghost use Rattle.tree.specs.Numbers.{below, usesBelow, numbered, Held, Using, From};
@@ -20,7 +20,7 @@ ghost use Rattle.tree.specs.Nest.{counts, mark, pop, pushed, Shallow, st
 ghost use Rattle.tree.specs.Verdict.{Says, limits};
 ghost use Rattle.tree.specs.Wf.{Wf, Decided};
 ghost use Rattle.tree.specs.Count.{Passed};
-ghost use Rattle.tree.specs.Formed.{Formed};
+ghost use Rattle.tree.specs.Formed.{Formed, Stepped};
 
 // ---- rows of members
 //
@@ -217,15 +217,21 @@ fn mark(on: bool) -> usize
     0
 }
 
-// Is the content right of the field at p, which ends at e and has the shape s?
-fn content_ok(t: &[u8], b: &[u8], p: usize, e: usize, s: usize) -> bool
+// The header after the one at p, which ends at e and has the shape s; 0 where its content is not right.
+fn content(t: &[u8], b: &[u8], p: usize, e: usize, s: usize) -> usize
     requires { ⌜ (e ≡ endOf (now b) p) × (e ≤ length (now b)) × (length (now b) ≤ 32768) × (s ≡ shape (getD (now b) p 0)) × (s < 200 → s < 106) × (now t ≡ table) ⌝ }
-    ensures { λ r. ⌜ Decided r (Inner (isLeaf (getD (now (b .entry)) p 0)) (now (b .entry)) p) ⌝ }
+    ensures { λ r. ⌜ Stepped (now (b .entry)) p r ⌝ }
 {
     if s >= 200 {
-        return leaf_ok(b, p + 3, e, s);
+        if leaf_ok(b, p + 3, e, s) {
+            return e;
+        }
+        return 0;
     }
-    row(t, b, p + 3, e, s)
+    if row(t, b, p + 3, e, s) {
+        return p + 3;
+    }
+    0
 }
 
 // Is each header right, where the bytes themselves are one field of a tree? That a field ends within the bytes follows from what was right before it; to
@@ -253,17 +259,13 @@ fn each_header(t: &[u8], b: &[u8]) -> Found
         }
         let k = b[p];
         let s = table::shape(t, k);
-        if content_ok(t, b, p, e, s) {
-            if s >= 200 {
-                p = e;
-            } else {
-                definitions += mark(k == 0x8C);
-                nodes += 1;
-                p += 3;
-            }
-        } else {
+        let q = content(t, b, p, e, s);
+        if q == 0 {
             return bad;
         }
+        definitions += mark(k == 0x8C);
+        nodes += mark(s < 200);
+        p = q;
     }
     Found {
         ok: true,

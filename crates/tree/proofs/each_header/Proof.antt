@@ -2,15 +2,14 @@
 use native.Mathlib.Omega.{arith}
 use Prim.Native.Nat.{_-_}
 use lib.ListN.{length}
-use Rattle.tree.proofs.Headers.{going-start, going-leaf, going-row, wrong-fits, wrong-content}
-use Rattle.tree.proofs.Seen.{Seen, seen-start, seen-leaf, seen-node, seen-end, not-formed}
-use Rattle.tree.proofs.Decides.{said, denied}
+use Rattle.tree.proofs.Headers.{going-start, wrong-fits, wrong-content}
+use Rattle.tree.proofs.Seen.{Seen, seen-start, seen-less, seen-step, seen-end, not-formed}
 use borrow.Author.Needs.{needs}
 use Rattle.tree.proofs.each_header.Statement.{statement}
 use Rattle.tree.proofs.each_header.Tie as tie
 use Rattle.tree.proofs.each_header.Reads as reads
 use Rattle.tree.proofs.each_header.Lts as lts
-use Rattle.tree.proofs.content_ok.Reads as content-ok-reads
+use Rattle.tree.proofs.content.Reads as content-reads
 use Rattle.tree.proofs.end_of.Reads as end-of-reads
 use Rattle.tree.proofs.mark.Reads as mark-reads
 use Rattle.tree.proofs.table.shape.Reads as shape-reads
@@ -42,35 +41,29 @@ shared-slice-read-k c = search needs
 shape-requires : tie.Need-shape-requires Inv-loop μ-loop
 shape-requires c κs = search needs
 
-content-ok-requires : tie.Need-content-ok-requires Inv-loop μ-loop
-content-ok-requires c κs = (c .before .before .before .end-of .ensures, omega (arith, c .before .before .if2 .left), search needs, c .shape .ensures .0, c .shape .ensures .1, search needs)
+content-requires : tie.Need-content-requires Inv-loop μ-loop
+content-requires c κs = (c .before .before .before .end-of .ensures, omega (arith, c .before .before .if2 .left), search needs, c .shape .ensures .0, c .shape .ensures .1, search needs)
 
-loop-less : tie.Need-loop-less Inv-loop μ-loop
-loop-less c = search needs
-
-loop-again : tie.Need-loop-again Inv-loop μ-loop
-loop-again c = seen-leaf _ _ _ _ _ (c .before .before .before .before .before .before .before .before .before .loop .inv) (c .before .before .before .before .before .before .before .before .loop-test .taken) (c .before .before .before .shape .ensures .0) _ (c .before .before .before .before .before .before .end-of .ensures) (omega (arith, c .if4 .taken)) (going-leaf _ _ _ _ (c .before .before .before .before .before .before .before .before .before .loop .inv .going) (c .before .before .before .before .before .before .before .before .loop-test .taken) (c .before .before .before .before .before .before .end-of .ensures) (omega (arith, c .before .before .before .before .before .if2 .left)) (c .before .before .before .shape .ensures .0) (said _ _ (c .before .before .content-ok .ensures) (c .before .if3 .taken)) (omega (arith, c .if4 .taken)))
+returns-3 : tie.Need-returns-3 Inv-loop μ-loop
+returns-3 c = not-formed _ _ _ (wrong-content _ _ (c .before .before .before .before .before .before .before .before .loop .inv .going) (c .before .before .before .before .before .before .before .loop-test .taken) (c .before .content .ensures .wrong (c .if3 .taken)))
 
 mark-requires : tie.Need-mark-requires Inv-loop μ-loop
 mark-requires c κs = search needs
 
 add-definitions : tie.Need-add-definitions Inv-loop μ-loop
-add-definitions c = omega (arith, c .mark .ensures .1, c .before .before .before .before .before .before .before .before .before .before .loop .inv .fewer, c .before .before .before .before .before .before .before .before .before .loop-test .taken)
+add-definitions c = omega (arith, c .mark .ensures .1, c .before .before .before .before .before .before .before .before .before .loop .inv .fewer, c .before .before .before .before .before .before .before .before .loop-test .taken)
+
+mark-requires-2 : tie.Need-mark-requires-2 Inv-loop μ-loop
+mark-requires-2 c κs = search needs
 
 add-nodes : tie.Need-add-nodes Inv-loop μ-loop
-add-nodes c = omega (arith, c .before .before .before .before .before .before .before .before .before .before .loop .inv .few, c .before .before .before .before .before .before .before .before .before .loop-test .taken)
+add-nodes c = omega (arith, c .mark2 .ensures .1, c .before .before .before .before .before .before .before .before .before .before .loop .inv .few, c .before .before .before .before .before .before .before .before .before .loop-test .taken)
 
-add-p : tie.Need-add-p Inv-loop μ-loop
-add-p c = search needs
+loop-less : tie.Need-loop-less Inv-loop μ-loop
+loop-less c = omega (arith, seen-less (c .before .before .before .before .before .before .before .before .before .before .before .before .before .args .b .now) (c .before .before .before .before .before .before .before .before .before .before .loop .p) _ _ _ _ (c .before .before .before .before .before .before .before .before .before .before .loop .inv) (c .before .before .before .before .before .before .before .before .before .loop-test .taken) (omega (arith, c .before .before .before .before .before .before .before .end-of .ensures, c .before .before .before .before .before .before .if2 .left)) (c .before .before .before .before .shape .ensures .0) (c .before .before .before .content .ensures .right (c .before .before .if3 .left)), c .before .before .before .before .before .before .before .before .before .loop-test .taken)
 
-loop-less-2 : tie.Need-loop-less-2 Inv-loop μ-loop
-loop-less-2 c = search needs
-
-loop-again-2 : tie.Need-loop-again-2 Inv-loop μ-loop
-loop-again-2 c = seen-node _ _ _ _ _ (c .before .before .before .before .before .before .before .before .before .before .loop .inv) (c .before .before .before .before .before .before .before .before .before .loop-test .taken) (c .before .before .before .before .shape .ensures .0) _ (omega (arith, c .before .if4 .left)) (c .mark .ensures) (going-row _ _ _ _ (c .before .before .before .before .before .before .before .before .before .before .loop .inv .going) (c .before .before .before .before .before .before .before .before .before .loop-test .taken) (c .before .before .before .before .before .before .before .end-of .ensures) (omega (arith, c .before .before .before .before .before .before .if2 .left)) (c .before .before .before .before .shape .ensures .0) (said _ _ (c .before .before .before .content-ok .ensures) (c .before .before .if3 .taken)) (omega (arith, c .before .if4 .left)))
-
-returns-3 : tie.Need-returns-3 Inv-loop μ-loop
-returns-3 c = not-formed _ _ _ (wrong-content _ _ (c .before .before .before .before .before .before .before .before .loop .inv .going) (c .before .before .before .before .before .before .before .loop-test .taken) (denied _ _ (c .before .content-ok .ensures) (c .if3 .left)))
+loop-again : tie.Need-loop-again Inv-loop μ-loop
+loop-again c = seen-step (c .before .before .before .before .before .before .before .before .before .before .before .before .before .args .b .now) (c .before .before .before .before .before .before .before .before .before .before .loop .p) _ _ _ _ (c .before .before .before .before .before .before .before .before .before .before .loop .inv) (c .before .before .before .before .before .before .before .before .before .loop-test .taken) (omega (arith, c .before .before .before .before .before .before .before .end-of .ensures, c .before .before .before .before .before .before .if2 .left)) (c .before .before .before .before .shape .ensures .0) (c .before .before .before .content .ensures .right (c .before .before .if3 .left)) _ _ (c .before .mark .ensures) (c .mark2 .ensures)
 
 returns-4 : tie.Need-returns-4 Inv-loop μ-loop
 returns-4 c = seen-end _ _ _ _ (c .before .loop .inv) (omega (arith, c .loop-test .left))
@@ -88,14 +81,12 @@ each-header-spec =
     returns-2
     shared-slice-read-k
     shape-requires
-    content-ok-requires
-    loop-less
-    loop-again
+    content-requires
+    returns-3
     mark-requires
     add-definitions
+    mark-requires-2
     add-nodes
-    add-p
-    loop-less-2
-    loop-again-2
-    returns-3
+    loop-less
+    loop-again
     returns-4)
