@@ -1,5 +1,5 @@
 -- Laws of the walk that counts open fields. Assumes nothing.
-use Prim.Native.Nat.{ℕ, zero, suc, _+_, _-_, _*_, _≤_, _<_}
+use Prim.Native.Nat.{ℕ, zero, suc, _+_, _-_, _≤_, _<_}
 use native.Mathlib.Omega.{arith}
 use native.Mathlib.Numerals.{add-one}
 use mathlib.Core.Path.{_≡_, refl, sym, ap, ap₂, subst, _∙_}
@@ -17,7 +17,7 @@ use Rattle.tree.specs.Scan.{All, over, here, nextOf}
 use Rattle.tree.specs.Nest.{counts, mark, pop, pushed, Shallow, stackOf}
 use Rattle.tree.specs.Nest as nest
 use Rattle.tree.specs.Match.{not-both}
-use Rattle.tree.specs.Wf.{Wf, Decided, tree-of, wf-of}
+use Rattle.tree.specs.Wf.{Wf, tree-of, wf-of}
 use Rattle.tree.specs.Numbers.{numbered}
 use Rattle.tree.specs.Verdict.{Encodes, Says, fine, wrong, deep, nested, nesting, defining, limits, walk-of, of-walk}
 

@@ -14,6 +14,7 @@ use Rattle.tree.specs.Rose.{endOf, textOf}
 use Rattle.tree.specs.Scan.{Local, done, step, All, over, here, Inner, nextOf}
 use Rattle.tree.specs.Match.{not-both}
 use Rattle.tree.specs.Wf.{Wf, Decided}
+use Rattle.tree.specs.Formed.{Stepped}
 use Rattle.tree.proofs.Leaves.{part}
 
 -- ---- a row of headers
@@ -91,19 +92,50 @@ going-next b p n x q g h m i u v =
 pub going-start : (b : List ℕ) → Local b (length b) (rowAt 0) 0 → Going b 0
 going-start b r = record { high = omega arith; root = r; yes = λ a. a; no = λ a. a }
 
-pub going-leaf : (b : List ℕ) (p e s : ℕ) → Going b p → p < length b → e ≡ endOf b p → e ≤ length b → s ≡ shape (getD b p 0) → 200 ≤ s → true ≡ leafOk s (part b (p + 3) e) → Going b e
-going-leaf b p e s g h u m k l t =
-    let f : endOf b p ≤ length b = omega arith in
-    let z : e - (p + 3) ≡ getD b (p + 1) 0 + getD b (p + 2) 0 * 256 = omega arith in
-    let w : isLeaf (getD b p 0) ≡ true = ap (leb 200) (sym k) ∙ le-leb 200 s l in
-    let t′ : leafOk (shape (getD b p 0)) (textOf b p) ≡ true = ap₂ leafOk (sym k) (ap (λ (n : ℕ). take n (drop (p + 3) b)) (sym z)) ∙ sym t in
-    going-next b p e true w g h f t′ u m
+-- the content of the field at p, a leaf's or a row
+stepped-yes : (b : List ℕ) (p n : ℕ) → 0 < n → Inner (isLeaf (getD b p 0)) b p → n ≡ nextOf (isLeaf (getD b p 0)) b p → Stepped b p n
+stepped-yes b p n h i u = record { wrong = λ z. absurd (omega arith); right = λ z. (i, u) }
 
-pub going-row : (b : List ℕ) (p e s : ℕ) → Going b p → p < length b → e ≡ endOf b p → e ≤ length b → s ≡ shape (getD b p 0) → s < 200 → Local b e (rowAt s) (p + 3) → Going b (p + 3)
-going-row b p e s g h u m k l r =
-    let f : endOf b p ≤ length b = omega arith in
-    let w : isLeaf (getD b p 0) ≡ false = ap (leb 200) (sym k) ∙ lt-leb 200 s l in
-    going-next b p (p + 3) false w g h f (subst (λ (j : ℕ). Local b (endOf b p) (rowAt j) (p + 3)) k (subst (λ (j : ℕ). Local b j (rowAt s) (p + 3)) u r)) refl (omega arith)
+stepped-no : (b : List ℕ) (p : ℕ) → (Inner (isLeaf (getD b p 0)) b p → ⊥) → Stepped b p 0
+stepped-no b p f = record { wrong = λ z. f; right = λ z. absurd (z refl) }
+
+module _ (b : List ℕ) (p e s : ℕ) (u : e ≡ endOf b p) (k : s ≡ shape (getD b p 0)) where
+  module _ (l : 200 ≤ s) where
+    is-leaf : isLeaf (getD b p 0) ≡ true
+    is-leaf = ap (leb 200) (sym k) ∙ le-leb 200 s l
+
+    same-leaf : leafOk s (part b (p + 3) e) ≡ leafOk (shape (getD b p 0)) (textOf b p)
+    same-leaf =
+        let z : e - (p + 3) ≡ getD b (p + 1) 0 + getD b (p + 2) 0 * 256 = omega arith in
+        ap₂ leafOk k (ap (λ (n : ℕ). take n (drop (p + 3) b)) z)
+
+    pub leaf-right : true ≡ leafOk s (part b (p + 3) e) → Stepped b p e
+    leaf-right t =
+        stepped-yes b p e (omega arith) (subst (λ (y : Bool). Inner y b p) (sym is-leaf) (sym (t ∙ same-leaf))) (u ∙ ap (λ (y : Bool). nextOf y b p) (sym is-leaf))
+
+    pub leaf-wrong : false ≡ leafOk s (part b (p + 3) e) → Stepped b p 0
+    leaf-wrong t = stepped-no b p (λ i. not-both (leafOk (shape (getD b p 0)) (textOf b p)) (subst (λ (y : Bool). Inner y b p) is-leaf i) (sym (t ∙ same-leaf)))
+
+  module _ (l : s < 200) where
+    is-node : isLeaf (getD b p 0) ≡ false
+    is-node = ap (leb 200) (sym k) ∙ lt-leb 200 s l
+
+    pub row-right : Local b e (rowAt s) (p + 3) → Stepped b p (p + 3)
+    row-right r =
+        stepped-yes b p (p + 3) (omega arith)
+        (subst (λ (y : Bool). Inner y b p) (sym is-node) (subst (λ (j : ℕ). Local b (endOf b p) (rowAt j) (p + 3)) k (subst (λ (j : ℕ). Local b j (rowAt s) (p + 3)) u r)))
+        (ap (λ (y : Bool). nextOf y b p) (sym is-node))
+
+    pub row-wrong : (Local b e (rowAt s) (p + 3) → ⊥) → Stepped b p 0
+    row-wrong f = stepped-no b p (λ i.
+        f (subst (λ (j : ℕ). Local b j (rowAt s) (p + 3)) (sym u) (subst (λ (j : ℕ). Local b (endOf b p) (rowAt j) (p + 3)) (sym k) (subst (λ (y : Bool). Inner y b p) is-node i))))
+
+next-fits : (b : List ℕ) (p : ℕ) (x : Bool) → endOf b p ≤ length b → nextOf x b p ≤ length b
+next-fits b p true m = m
+next-fits b p false m = omega arith
+
+pub going-on : (b : List ℕ) (p q : ℕ) → Going b p → p < length b → endOf b p ≤ length b → Inner (isLeaf (getD b p 0)) b p → q ≡ nextOf (isLeaf (getD b p 0)) b p → Going b q
+going-on b p q g h m i u = going-next b p q (isLeaf (getD b p 0)) refl g h m i u (subst (λ (j : ℕ). j ≤ length b) (sym u) (next-fits b p (isLeaf (getD b p 0)) m))
 
 pub wrong-root : (b : List ℕ) → (Local b (length b) (rowAt 0) 0 → ⊥) → Wf b → ⊥
 wrong-root b f w = f (w .root)
@@ -111,17 +143,8 @@ wrong-root b f w = f (w .root)
 pub wrong-fits : (b : List ℕ) (p : ℕ) → Going b p → p < length b → (endOf b p ≤ length b → ⊥) → Wf b → ⊥
 wrong-fits b p g h f w = f (all-fits b p h (g .no (w .all)))
 
-pub wrong-leaf : (b : List ℕ) (p e s : ℕ) → Going b p → p < length b → e ≡ endOf b p → s ≡ shape (getD b p 0) → 200 ≤ s → false ≡ leafOk s (part b (p + 3) e) → Wf b → ⊥
-wrong-leaf b p e s g h u k l t w =
-    let z : e - (p + 3) ≡ getD b (p + 1) 0 + getD b (p + 2) 0 * 256 = omega arith in
-    let x : isLeaf (getD b p 0) ≡ true = ap (leb 200) (sym k) ∙ le-leb 200 s l in
-    let t′ : leafOk (shape (getD b p 0)) (textOf b p) ≡ false = ap₂ leafOk (sym k) (ap (λ (n : ℕ). take n (drop (p + 3) b)) (sym z)) ∙ sym t in
-    not-both (leafOk (shape (getD b p 0)) (textOf b p)) (subst (λ (y : Bool). Inner y b p) x (all-inner b p h (g .no (w .all)))) t′
-
-pub wrong-row : (b : List ℕ) (p e s : ℕ) → Going b p → p < length b → e ≡ endOf b p → s ≡ shape (getD b p 0) → s < 200 → (Local b e (rowAt s) (p + 3) → ⊥) → Wf b → ⊥
-wrong-row b p e s g h u k l f w =
-    let x : isLeaf (getD b p 0) ≡ false = ap (leb 200) (sym k) ∙ lt-leb 200 s l in
-    f (subst (λ (j : ℕ). Local b j (rowAt s) (p + 3)) (sym u) (subst (λ (j : ℕ). Local b (endOf b p) (rowAt j) (p + 3)) (sym k) (subst (λ (y : Bool). Inner y b p) x (all-inner b p h (g .no (w .all))))))
+pub wrong-content : (b : List ℕ) (p : ℕ) → Going b p → p < length b → (Inner (isLeaf (getD b p 0)) b p → ⊥) → Wf b → ⊥
+wrong-content b p g h f w = f (all-inner b p h (g .no (w .all)))
 
 pub right : (b : List ℕ) (p : ℕ) → Going b p → length b ≤ p → Wf b
 right b p g h = let k : p ≡ length b = omega (arith, g .high) in record { root = g .root; all = g .yes (over k) }

@@ -4,20 +4,20 @@ use native.Mathlib.Nat.{add-zero, zero-add}
 use native.Mathlib.Omega.{arith}
 use mathlib.Core.Path.{_≡_, refl, sym, ap, subst, _∙_}
 use mathlib.Core.List.{List, []}
-use mathlib.Core.Bool.{Bool, true, false}
-use lib.Dec.{eqb, leb}
+use mathlib.Core.Bool.{Bool, true, false, cond}
+use lib.Dec.{eqb, ltb, leb}
 use lib.ListN.{length, getD}
-use borrow.Author.Tests.{le-leb, lt-leb}
-use Rattle.tree.specs.declared.Found.{Found}
+use borrow.Author.Tests.{leb-true, leb-false, lt-ltb, le-ltb}
 use Rattle.tree.specs.Leaf.{shape, isLeaf}
 use Rattle.tree.specs.Rose.{endOf}
+use Rattle.tree.specs.Scan.{Inner, nextOf}
 use Rattle.tree.specs.Match.{not-both}
 use Rattle.tree.specs.Nest.{counts, mark, Shallow}
 use Rattle.tree.specs.Wf.{Wf, tree-of}
 use Rattle.tree.specs.Verdict.{walk-of}
-use Rattle.tree.specs.Count.{Passed, over, bytes, members, few-fields, few-definitions}
+use Rattle.tree.specs.Count.{Passed, over, bytes, members, leaf-none, few-fields, few-definitions}
 use Rattle.tree.specs.Formed.{Formed}
-use Rattle.tree.proofs.Headers.{Going, right}
+use Rattle.tree.proofs.Headers.{Going, going-on, right}
 
 -- c were counted before p: with those from p on it is all
 abbrev Tally : List ℕ → ℕ → ℕ → ℕ → Type 0
@@ -26,14 +26,11 @@ Tally b o p c = (m : ℕ) → Passed b o p m → Passed b o 0 (c + m)
 tally-start : (b : List ℕ) (o : ℕ) → Tally b o 0 0
 tally-start b o m s = subst (Passed b o 0) (sym (zero-add m)) s
 
-module _ (b : List ℕ) (o p c : ℕ) (h : p < length b) (t : Tally b o p c) where
-  tally-leaf : (e : ℕ) → e ≡ endOf b p → isLeaf (getD b p 0) ≡ true → Tally b o e c
-  tally-leaf e u l m s = t m (bytes h l (subst (λ (j : ℕ). Passed b o j m) u s))
-
-  tally-node : (r : ℕ) → isLeaf (getD b p 0) ≡ false → r ≡ mark (counts o (getD b p 0)) → Tally b o (p + 3) (c + r)
-  tally-node r l e m s =
-      let q : c + (mark (counts o (getD b p 0)) + m) ≡ (c + r) + m = omega arith in
-      subst (Passed b o 0) q (t (mark (counts o (getD b p 0)) + m) (members h l s))
+tally-step : (b : List ℕ) (o p c r : ℕ) → p < length b → (x : Bool) → isLeaf (getD b p 0) ≡ x → r ≡ cond x 0 (mark (counts o (getD b p 0))) → Tally b o p c → Tally b o (nextOf x b p) (c + r)
+tally-step b o p c r h true l e t m s = subst (λ (j : ℕ). Passed b o 0 (j + m)) (omega arith) (t m (bytes h l s))
+tally-step b o p c r h false l e t m s =
+    let q : c + (mark (counts o (getD b p 0)) + m) ≡ (c + r) + m = omega arith in
+    subst (Passed b o 0) q (t (mark (counts o (getD b p 0)) + m) (members h l s))
 
 tally-end : (b : List ℕ) (o p c : ℕ) → length b ≤ p → Tally b o p c → Passed b o 0 c
 tally-end b o p c h t = subst (Passed b o 0) (add-zero c) (t 0 (over h))
@@ -48,35 +45,40 @@ pub record Seen (b : List ℕ) (p nodes definitions : ℕ) : Type 0 where
 pub seen-start : (b : List ℕ) → Going b 0 → Seen b 0 0 0
 seen-start b g = record { going = g; few = omega arith; fewer = omega arith; all = tally-start b 0; some = tally-start b 0x8C }
 
-counted : (k : ℕ) → 1 ≡ mark (counts 0 k)
+-- what is added at a header: 1 for a field with members, 1 for a definition, which has members
+node-mark : (s k : ℕ) (x : Bool) → leb 200 s ≡ x → mark (ltb s 200) ≡ cond x 0 (mark (counts 0 k))
 unfolding counts
-counted k = refl
+node-mark s k true e = ap mark (le-ltb s 200 (leb-true 200 s e))
+node-mark s k false e = ap mark (lt-ltb s 200 (leb-false 200 s e))
 
-defining : (k r : ℕ) → r ≡ mark (eqb k 0x8C) → r ≡ mark (counts 0x8C k)
+def-mark : (k : ℕ) (x : Bool) → isLeaf k ≡ x → mark (counts 0x8C k) ≡ cond x 0 (mark (counts 0x8C k))
+def-mark k true e = leaf-none k e
+def-mark k false e = refl
+
+def-counts : (k : ℕ) → mark (eqb k 0x8C) ≡ mark (counts 0x8C k)
 unfolding counts
-defining k r e = e
+def-counts k = refl
 
-module _ (b : List ℕ) (p n d s : ℕ) (w : Seen b p n d) (h : p < length b) (k : s ≡ shape (getD b p 0)) where
-  pub seen-leaf : (e : ℕ) → e ≡ endOf b p → 200 ≤ s → Going b e → Seen b e n d
-  seen-leaf e u l g =
-      let f : isLeaf (getD b p 0) ≡ true = ap (leb 200) (sym k) ∙ le-leb 200 s l in
-      record {
-        going = g;
-        few = omega (arith, w .few);
-        fewer = omega (arith, w .fewer);
-        all = tally-leaf b 0 p n h (w .all) e u f;
-        some = tally-leaf b 0x8C p d h (w .some) e u f;
-      }
+next-more : (b : List ℕ) (p : ℕ) (x : Bool) → p + 3 ≤ nextOf x b p
+next-more b p true = omega arith
+next-more b p false = omega arith
 
-  pub seen-node : (r : ℕ) → s < 200 → (r ≡ mark (eqb (getD b p 0) 0x8C)) × (r ≤ 1) → Going b (p + 3) → Seen b (p + 3) (n + 1) (d + r)
-  seen-node r l e g =
-      let f : isLeaf (getD b p 0) ≡ false = ap (leb 200) (sym k) ∙ lt-leb 200 s l in
+module _ (b : List ℕ) (p n d s q : ℕ) (w : Seen b p n d) (h : p < length b) (m : endOf b p ≤ length b) (k : s ≡ shape (getD b p 0))
+    (i : Inner (isLeaf (getD b p 0)) b p × (q ≡ nextOf (isLeaf (getD b p 0)) b p)) where
+  pub seen-less : p < q
+  seen-less = omega (arith, i .1, next-more b p (isLeaf (getD b p 0)))
+
+  pub seen-step : (r₁ r₂ : ℕ) → (r₁ ≡ mark (eqb (getD b p 0) 0x8C)) × (r₁ ≤ 1) → (r₂ ≡ mark (ltb s 200)) × (r₂ ≤ 1) → Seen b q (n + r₂) (d + r₁)
+  seen-step r₁ r₂ e f =
+      let x = isLeaf (getD b p 0) in
+      let l : leb 200 s ≡ x = ap (leb 200) k in
+      let g : p + 3 ≤ nextOf x b p = next-more b p x in
       record {
-        going = g;
-        few = omega (arith, w .few);
-        fewer = omega (arith, w .fewer, e .1);
-        all = tally-node b 0 p n h (w .all) 1 f (counted (getD b p 0));
-        some = tally-node b 0x8C p d h (w .some) r f (defining (getD b p 0) r (e .0));
+        going = going-on b p q (w .going) h m (i .0) (i .1);
+        few = omega (arith, w .few, f .1, i .1);
+        fewer = omega (arith, w .fewer, e .1, i .1);
+        all = subst (λ (j : ℕ). Tally b 0 j (n + r₂)) (sym (i .1)) (tally-step b 0 p n r₂ h x refl (f .0 ∙ node-mark s (getD b p 0) x l) (w .all));
+        some = subst (λ (j : ℕ). Tally b 0x8C j (d + r₁)) (sym (i .1)) (tally-step b 0x8C p d r₁ h x refl (e .0 ∙ def-counts (getD b p 0) ∙ def-mark (getD b p 0) x refl) (w .some));
       }
 
 pub seen-end : (b : List ℕ) (p n d : ℕ) → Seen b p n d → length b ≤ p → Formed b (record { ok = true; nodes = n; definitions = d })

@@ -1,21 +1,21 @@
 -- Module numbers: where they stand, and the two loops over them. Assumes nothing.
-use Prim.Native.Nat.{ℕ, suc, _+_, _-_, _*_, _≤_, _<_}
+use Prim.Native.Nat.{ℕ, suc, _+_, _*_, _≤_, _<_}
 use native.Mathlib.Numerals.{add-one}
 use native.Mathlib.Omega.{arith}
-use mathlib.Core.Path.{_≡_, refl, sym, ap, ap₂, subst, _∙_}
+use mathlib.Core.Path.{_≡_, refl, sym, ap, subst, _∙_}
 use mathlib.Core.List.{List, [], _∷_}
 use mathlib.Core.Logic.{_⊎_, inl, inr}
-use mathlib.Core.Bool.{Bool, true, false, cond}
-use lib.Dec.{eqb, ltb}
+use mathlib.Core.Bool.{Bool, true, false}
+use lib.Dec.{ltb}
 use lib.ListN.{length, getD, take, drop, length-drop}
 use lib.Seq.{drop-cons, length-take-le}
 use borrow.Author.Tests.{eqb-true, lt-ltb, le-ltb}
 use Rattle.fields.specs.Number.{value}
 use Rattle.tree.specs.Table.{shapes}
-use Rattle.tree.specs.Leaf.{both, shape, leafOk}
-use Rattle.tree.specs.Rose.{Rose, Roses, leaf, node, rnil, rcons, endOf, textOf, tagOf, placeOf, Field, Row, row-le, inside, tagged}
+use Rattle.tree.specs.Leaf.{shape, leafOk}
+use Rattle.tree.specs.Rose.{Rose, Roses, node, rnil, rcons, endOf, textOf, tagOf, placeOf, Row, row-le, tagged}
 use Rattle.tree.specs.Rose as rose
-use Rattle.tree.specs.Tree.{Name, Number, Globals, Import, Uses, Module, Main, Tree, noGlobals, aGlobals}
+use Rattle.tree.specs.Tree.{Number, Globals, Import, Uses, Module, Main, Tree, noGlobals, aGlobals}
 use Rattle.tree.specs.Form.{At, fName, fNumber, fNumbers, fNatives, fTerm, fImport, fImports, fUses, fGlobals, fModule, fModules, fMain, fTree}
 use Rattle.tree.specs.Numbers.{imported, included, below, usesBelow, numberedFrom, numbered, twoAt, Held, none, more, Using, From}
 use Rattle.tree.proofs.Leaves.{both-yes, both-no}

@@ -13,7 +13,7 @@ use Rattle.tree.specs.Tree.{Name, Number, Mark, Format, Term, OptTerm, T
 use Rattle.tree.specs.Tree.{tId, tRecurse, tArr, tNeg, tLabel, tBreak, tIfThenElse, tVar, tCall, tDef, tNum, tTryCatch, tFold, tPipe, tBinOp, tPath, tStr, tObj}
 use Rattle.tree.specs.Tree.{noMark, aMark, noFormat, aFormat, noTerm, aTerm, tsNil, tsCons, bNone, bElse, bPair, dsNil, dsCons, def, pVar, pArr, pObj, noPattern, aPattern, psNil, psCons, pesNil, pesCons}
 use Rattle.tree.specs.Tree.{partsNil, partsCons, partIndex, partRange, noBound, aBound, sNil, sCons, sText, sChar, sTerm, esNil, esCons, noGlobals, aGlobals}
-use Rattle.tree.specs.Form.{fName, fNumber, fNames, fNumbers, fMark, fFormat, fTerm, fOptTerm, fTerms, fBranches, fDefs, fDef, fPattern, fOptPattern, fPatterns, fPatEntries, fParts, fPart, fBound, fStrParts, fStrPart, fEntries}
+use Rattle.tree.specs.Form.{fName, fNames, fNumbers, fMark, fFormat, fTerm, fOptTerm, fTerms, fBranches, fDefs, fDef, fPattern, fOptPattern, fPatterns, fPatEntries, fParts, fPart, fBound, fStrParts, fStrPart, fEntries}
 use Rattle.tree.specs.Form.{fNative, fNatives, fGlobals, fImport, fImports, fUses, fModule, fModules, fMain, fTree}
 
 -- ---- leaves, members, rows without terms

@@ -1,9 +1,9 @@
 -- How many fields with members there are, all or those of one tag. So many may be open at once and no more: where they are few, nesting need not be looked at.
 -- Assumes nothing.
-use Prim.Native.Nat.{ℕ, _+_, _*_, _≤_, _<_, max}
+use Prim.Native.Nat.{ℕ, _+_, _≤_, _<_}
 use native.Mathlib.Omega.{arith}
 use mathlib.Core.Path.{_≡_, refl, sym, ap, subst, _∙_}
-use mathlib.Core.List.{List, []}
+use mathlib.Core.List.{List}
 use mathlib.Core.Bool.{Bool, true, false}
 use lib.Dec.{eqb}
 use lib.ListN.{length, getD}
@@ -108,7 +108,7 @@ unfolding shape shapes
 no-leaf k l true e = not-both (isLeaf k) l (ap isLeaf (eqb-true k 0x8C e))
 no-leaf k l false e = refl
 
-leaf-none : (k : ℕ) → isLeaf k ≡ true → mark (counts 0x8C k) ≡ 0
+pub leaf-none : (k : ℕ) → isLeaf k ≡ true → mark (counts 0x8C k) ≡ 0
 unfolding counts
 leaf-none k l = no-leaf k l (eqb k 0x8C) refl
 

@@ -2,13 +2,13 @@
 use Prim.Native.Nat.{ℕ, suc, _+_, _-_, _*_, _/_, _%_, _≤_, _<_}
 use native.Mathlib.Nat.{add-mul-mod-self-right, mod-eq-of-lt, div-eq-of-lt-le}
 use native.Mathlib.Omega.{arith}
-use mathlib.Core.Path.{_≡_, refl, sym, ap, ap₂, subst, _∙_}
+use mathlib.Core.Path.{_≡_, sym, ap, ap₂, subst, _∙_}
 use mathlib.Core.List.{List, [], _∷_, _++_, append-nil}
-use lib.ListN.{length, getD, take, drop, length-take, length-drop}
+use lib.ListN.{length, getD, take, drop, length-drop}
 use lib.Seq.{drop-cons, drop-drop, take-add, length-take-le, take-length}
 use Rattle.fields.specs.Number.{number, number-two}
 use Rattle.fields.specs.Field.{field}
-use Rattle.tree.specs.Rose.{Rose, Roses, leaf, node, rnil, rcons, endOf, textOf, tagOf, placeOf, Row, row-le}
+use Rattle.tree.specs.Rose.{Rose, Roses, leaf, node, rnil, rcons, endOf, textOf, placeOf, Row, row-le}
 use Rattle.tree.specs.Rose as rose
 use Rattle.tree.specs.Tree.{Tree}
 use Rattle.tree.specs.Form.{At, fTree}

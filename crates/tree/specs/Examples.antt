@@ -1,14 +1,13 @@
 -- Worked examples, by computing: a tree and its bytes. Its natives are none, its globals are absent. Assumes nothing.
-use Prim.Native.Nat.{ℕ}
 use mathlib.Core.Path.{_≡_, refl}
 use mathlib.Core.Bool.{true, false}
-use mathlib.Core.List.{List, [], _∷_}
+use mathlib.Core.List.{[], _∷_}
 use Rattle.fields.specs.Number.{number, value}
 use Rattle.fields.specs.Field.{field}
-use Rattle.tree.specs.Tree.{Name, Number, Import, Uses, Main, Module, Tree, Term, noGlobals, tId, tVar, tCall, tPipe, tBinOp, tsNil, tsCons, aPattern, pVar, dsNil, operator, operatorOf, oMath, oUpdateAlt, oNone}
-use Rattle.tree.specs.Form.{fTree, fNatives, fGlobals, fModules, fModule, fMain, fUses, fImports, fNumbers, fNames, fTerm}
+use Rattle.tree.specs.Tree.{Uses, Tree, Term, noGlobals, tId, tVar, tPipe, aPattern, pVar, operator, operatorOf, oMath, oUpdateAlt, oNone}
+use Rattle.tree.specs.Form.{fTree, fNatives, fGlobals, fModules, fMain, fUses, fImports, fNumbers, fNames, fTerm}
 use Rattle.tree.specs.Encoded.{encode, bytesOf}
-use Rattle.tree.specs.Numbers.{numbered, numberedFrom, usesBelow, imported, included, below}
+use Rattle.tree.specs.Numbers.{usesBelow, imported, included, below}
 use Rattle.tree.specs.Nest.{nest, counts}
 use Rattle.tree.specs.Verdict.{nesting, defining}
 

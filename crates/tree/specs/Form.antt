@@ -1,10 +1,11 @@
 -- The fields of a tree, TREE.md's table read from the tree's side: a clause for each constructor. Each function for members takes the rest of the row, so
 -- that a list or an optional member stands at the end of a row and before more members alike. Assumes nothing.
 use Prim.Native.Nat.{ℕ}
+use mathlib.Core.Path.{_≡_, refl}
 use mathlib.Core.List.{List, [], _∷_}
 use lib.ListN.{length}
-use Rattle.tree.specs.Rose.{Rose, Roses, leaf, node, rnil, rcons, Row}
-use Rattle.tree.specs.Tree.{Name, Number, Mark, Format, Term, OptTerm, Terms, Branches, Defs, Def, Pattern, OptPattern, Patterns, PatEntries, Parts, Part, Bound, StrParts, StrPart, Entries, Native, Globals, Import, Uses, Module, Main, Tree}
+use Rattle.tree.specs.Rose.{Rose, Roses, leaf, node, rnil, rcons, placeOf, Row}
+use Rattle.tree.specs.Tree.{Name, Number, Mark, Format, Term, OptTerm, Terms, Branches, Defs, Def, Pattern, OptPattern, Patterns, PatEntries, Parts, Part, Bound, StrParts, StrPart, Entries, Native, Globals, Import, Uses, Module, Main, Tree, termPlace, patternPlace}
 use Rattle.tree.specs.Tree.{tId, tRecurse, tArr, tNeg, tLabel, tBreak, tIfThenElse, tVar, tCall, tDef, tNum, tTryCatch, tFold, tPipe, tBinOp, tPath, tStr, tObj}
 use Rattle.tree.specs.Tree.{noMark, aMark, noFormat, aFormat, noTerm, aTerm, tsNil, tsCons, bNone, bElse, bPair, dsNil, dsCons, def, pVar, pArr, pObj, noPattern, aPattern, psNil, psCons, pesNil, pesCons}
 use Rattle.tree.specs.Tree.{partsNil, partsCons, partIndex, partRange, noBound, aBound, sNil, sCons, sText, sChar, sTerm, esNil, esCons, noGlobals, aGlobals}
@@ -158,3 +159,32 @@ fTree t =
 -- the fields of the tree stand in the bytes at their places, and fill them: "A tree is one field"
 unfoldable pub At : List ℕ → Tree → Type 0
 At b t = Row b (rcons (fTree t) rnil) 0 (length b)
+
+-- ---- the place of a term or pattern is its field's
+
+pub term-place : (t : Term) → placeOf (fTerm t) ≡ termPlace t
+unfolding fTerm
+term-place (tId p) = refl
+term-place (tRecurse p) = refl
+term-place (tArr p o) = refl
+term-place (tNeg p t) = refl
+term-place (tLabel p x t) = refl
+term-place (tBreak p x) = refl
+term-place (tIfThenElse p q c t bs) = refl
+term-place (tVar p x) = refl
+term-place (tCall p f ts) = refl
+term-place (tDef p ds t) = refl
+term-place (tNum p x) = refl
+term-place (tTryCatch p t o) = refl
+term-place (tFold p f t x ts) = refl
+term-place (tPipe p t q x u) = refl
+term-place (tBinOp p t q x u) = refl
+term-place (tPath p t ps) = refl
+term-place (tStr p f ps) = refl
+term-place (tObj p es) = refl
+
+pub pattern-place : (x : Pattern) → placeOf (fPattern x) ≡ patternPlace x
+unfolding fTerm
+pattern-place (pVar p x) = refl
+pattern-place (pArr p xs) = refl
+pattern-place (pObj p es) = refl

@@ -1,10 +1,10 @@
 -- What the tables mean, and which fields obey them. Assumes nothing.
-use Prim.Native.Nat.{ℕ, _+_, _-_, _*_, _/_, _%_, _≤_, _<_, suc, zero}
+use Prim.Native.Nat.{ℕ, _/_, _%_}
 use mathlib.Core.Path.{_≡_}
 use mathlib.Core.List.{List, [], _∷_}
 use mathlib.Core.Bool.{Bool, true, false, cond}
-use lib.Dec.{eqb, ltb, leb}
-use lib.ListN.{length, getD, drop}
+use lib.Dec.{eqb}
+use lib.ListN.{drop}
 use Rattle.tree.specs.Rose.{Rose, Roses, leaf, node, rnil, rcons, tagOf}
 use Rattle.tree.specs.Table.{items}
 use Rattle.tree.specs.Leaf.{class, shape, isLeaf}

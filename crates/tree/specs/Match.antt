@@ -7,7 +7,7 @@ use mathlib.Core.Bool.{Bool, true, false, cond}
 use lib.Dec.{eqb, eqb→eq, T}
 use borrow.Author.Tests.{eq-eqb}
 use Rattle.tree.specs.Rose.{Rose, Roses, leaf, node, rnil, rcons, tagOf}
-use Rattle.tree.specs.Leaf.{class, shape, isLeaf}
+use Rattle.tree.specs.Leaf.{class, isLeaf}
 use Rattle.tree.specs.Grammar.{Items, dead, end, one, opt, many, mix, term, after, ends, fit, content, Obeys, Obey}
 
 pub not-both : {A : Type 0} (x : Bool) → x ≡ true → x ≡ false → A

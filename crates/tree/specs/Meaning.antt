@@ -7,7 +7,7 @@ use mathlib.Core.Logic.{_⊎_, inl, inr}
 use mathlib.Core.Bool.{cond}
 use lib.Dec.{eqb}
 use Rattle.tree.specs.Rose.{Rose, Roses, leaf, node, rnil, rcons}
-use Rattle.tree.specs.Grammar.{Items, end, one, opt, many, mix}
+use Rattle.tree.specs.Grammar.{Items, end, opt, many, mix}
 use Rattle.tree.specs.Tree.{Name, Number, Mark, Format, Term, OptTerm, Terms, Branches, Defs, Def, Pattern, OptPattern, Patterns, PatEntries, Parts, Part, Bound, StrParts, StrPart, Entries, Native, Globals, Import, Module, Main, Tree}
 use Rattle.tree.specs.Tree.{noMark, aMark, noFormat, aFormat, noTerm, aTerm, tsNil, tsCons, bNone, bElse, bPair, dsNil, dsCons, noPattern, aPattern, psNil, psCons, pesNil, pesCons}
 use Rattle.tree.specs.Tree.{partsNil, partsCons, noBound, aBound, sNil, sCons, sTerm, esNil, esCons, noGlobals, aGlobals}

@@ -1,5 +1,5 @@
 -- How many fields are open at once, all or those of one tag; and the walk that counts them. Assumes nothing.
-use Prim.Native.Nat.{ℕ, zero, suc, _+_, _-_, _*_, _≤_, _<_, max}
+use Prim.Native.Nat.{ℕ, zero, suc, _+_, _≤_, _<_, max}
 use native.Mathlib.Nat.{le-max-left, le-max-right}
 use native.Mathlib.Omega.{arith}
 use mathlib.Core.Path.{_≡_, refl, sym, ap, subst, _∙_}
@@ -8,7 +8,7 @@ use mathlib.Core.Bool.{Bool, true, false, cond}
 use lib.Dec.{eqb, leb}
 use lib.ListN.{length, getD}
 use borrow.Author.Tests.{le-leb, lt-leb}
-use Rattle.tree.specs.Rose.{Rose, Roses, leaf, node, rnil, rcons, tagOf, placeOf, endOf, textOf, Field, At, Row, tagged, row-le}
+use Rattle.tree.specs.Rose.{Rose, Roses, leaf, node, rnil, rcons, placeOf, endOf, At, Row, tagged, row-le}
 use Rattle.tree.specs.Leaf.{isLeaf}
 use Rattle.tree.specs.Grammar.{Obeys, Obey}
 use Rattle.tree.specs.Scan.{nextOf}

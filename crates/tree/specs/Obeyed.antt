@@ -1,12 +1,12 @@
 -- The fields of a tree obey the table. The clauses marked as made are those of tools/tree_table.py. Assumes nothing.
 use Prim.Native.Nat.{ℕ}
-use mathlib.Core.Path.{_≡_, refl, sym, ap, subst, _∙_}
+use mathlib.Core.Path.{_≡_, refl, sym, subst}
 use mathlib.Core.List.{List, [], _∷_}
-use mathlib.Core.Bool.{Bool, true, false, cond}
+use mathlib.Core.Bool.{true, false}
 use Rattle.tree.specs.Rose.{Rose, Roses, leaf, node, rnil, rcons, tagOf}
 use Rattle.tree.specs.Table.{classes, shapes, items}
 use Rattle.tree.specs.Leaf.{class, shape, isLeaf}
-use Rattle.tree.specs.Grammar.{Items, end, one, opt, many, mix, term, decode, rowAt, content, after, ends, fit, Obeys, Obey}
+use Rattle.tree.specs.Grammar.{Items, end, one, opt, many, mix, decode, rowAt, content, after, ends, fit, Obeys, Obey}
 use Rattle.tree.specs.Tree.{Name, Number, Mark, Format, Term, OptTerm, Terms, Branches, Defs, Def, Pattern, OptPattern, Patterns, PatEntries, Parts, Part, Bound, StrParts, StrPart, Entries, Native, Globals, Import, Uses, Module, Main, Tree}
 use Rattle.tree.specs.Tree.{tId, tRecurse, tArr, tNeg, tLabel, tBreak, tIfThenElse, tVar, tCall, tDef, tNum, tTryCatch, tFold, tPipe, tBinOp, tPath, tStr, tObj}
 use Rattle.tree.specs.Tree.{noMark, aMark, noFormat, aFormat, noTerm, aTerm, tsNil, tsCons, bNone, bElse, bPair, dsNil, dsCons, def, pVar, pArr, pObj, noPattern, aPattern, psNil, psCons, pesNil, pesCons}

@@ -1,9 +1,9 @@
 -- Fields in bytes: any tree of fields, each with its tag and its place. It stands between the bytes and the typed tree, so that where fields stand, how
 -- deep they nest and which bytes they have is said once, and not for each tag. Assumes nothing.
-use Prim.Native.Nat.{ℕ, _+_, _*_, _≤_, _<_, suc, zero}
+use Prim.Native.Nat.{ℕ, _+_, _*_, _≤_}
 use native.Mathlib.Omega.{arith}
-use mathlib.Core.Path.{_≡_, refl, sym, ap, ap₂, subst, _∙_}
-use mathlib.Core.List.{List, [], _∷_}
+use mathlib.Core.Path.{_≡_}
+use mathlib.Core.List.{List}
 use mathlib.Core.Bool.{true}
 use lib.ListN.{length, getD, take, drop}
 use Rattle.tree.specs.Leaf.{shape, leafOk}

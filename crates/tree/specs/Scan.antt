@@ -1,11 +1,11 @@
 -- Well formed, said of each field by itself; and that this gives a tree. Assumes nothing.
-use Prim.Native.Nat.{ℕ, _+_, _-_, _*_, _≤_, _<_, suc, zero}
+use Prim.Native.Nat.{ℕ, _+_, _≤_, _<_, suc, zero}
 use native.Mathlib.Omega.{arith}
 use mathlib.Core.Path.{_≡_, refl, sym, ap, ap₂, subst, _∙_}
-use mathlib.Core.List.{List, [], _∷_}
-use mathlib.Core.Bool.{Bool, true, false, cond}
-use lib.ListN.{length, getD, take, drop}
-use Rattle.tree.specs.Rose.{Rose, Roses, leaf, node, rnil, rcons, tagOf, placeOf, endOf, textOf, Field, At, Row, tagged, inside, row-le}
+use mathlib.Core.List.{List}
+use mathlib.Core.Bool.{Bool, true, false}
+use lib.ListN.{length, getD}
+use Rattle.tree.specs.Rose.{Rose, Roses, leaf, node, rnil, rcons, tagOf, placeOf, endOf, textOf, At, Row, tagged, row-le}
 use Rattle.tree.specs.Leaf.{class, shape, isLeaf, leafOk}
 use Rattle.tree.specs.Grammar.{Items, content, after, ends, fit, Obeys, Obey}
 

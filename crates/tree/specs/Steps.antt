@@ -3,13 +3,13 @@
 use Prim.Native.Nat.{ℕ}
 use mathlib.Core.Path.{_≡_, refl, sym, ap, _∙_}
 use mathlib.Core.List.{List, [], _∷_}
-use Rattle.tree.specs.Rose.{Rose, Roses, leaf, node, rnil, rcons}
+use Rattle.tree.specs.Rose.{Roses, leaf, node, rnil, rcons}
 use Rattle.tree.specs.Table.{classes, shapes, items}
 use Rattle.tree.specs.Leaf.{class, shape}
 use Rattle.tree.specs.Grammar.{end, one, opt, many, mix, decode, rowAt}
 use Rattle.tree.specs.Tree.{Term, tId, tRecurse, tArr, tNeg, tLabel, tBreak, tIfThenElse, tVar, tCall, tDef, tNum, tTryCatch, tFold, tPipe, tBinOp, tPath, tStr, tObj}
 use Rattle.tree.specs.Tree.{def, pVar, pArr, pObj, partIndex, partRange, sText, sChar}
-use Rattle.tree.specs.Form.{fName, fNumber, fNames, fNumbers, fMark, fFormat, fTerm, fOptTerm, fTerms, fDefs, fDef, fPattern, fOptPattern, fPatterns, fPatEntries, fParts, fBound, fStrParts, fEntries}
+use Rattle.tree.specs.Form.{fName, fNumber, fNames, fNumbers, fMark, fFormat, fTerm, fOptTerm, fTerms, fDefs, fPattern, fOptPattern, fPatterns, fPatEntries, fParts, fBound, fStrParts, fEntries}
 use Rattle.tree.specs.Form.{fNative, fNatives, fGlobals, fImport, fImports, fUses, fModule, fModules, fMain, fTree}
 use Rattle.tree.specs.Match.{Match, Step}
 use Rattle.tree.specs.Meaning.{Meaning, Op, opPipe, opByte, gOp, gNatives, gImports, gIncludes, gVars, gDefs, gPair, member, branches}

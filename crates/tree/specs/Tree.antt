@@ -6,7 +6,7 @@
 -- a type of its own where terms stand in it, and so is each optional member. A leaf's content is kept as the bytes that it has. Assumes nothing.
 use Prim.Native.Nat.{ℕ, _+_, _-_}
 use mathlib.Core.List.{List}
-use mathlib.Core.Bool.{Bool, true, false, cond}
+use mathlib.Core.Bool.{cond}
 use lib.Dec.{eqb, ltb}
 use lib.ListN.{getD}
 

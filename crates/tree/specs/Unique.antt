@@ -4,7 +4,7 @@ use native.Mathlib.Omega.{arith}
 use mathlib.Core.Path.{_≡_, refl, sym, ap, ap₂, _∙_}
 use mathlib.Core.List.{List}
 use lib.ListN.{length, getD}
-use Rattle.tree.specs.Rose.{Rose, Roses, leaf, node, rnil, rcons, Field, endOf, textOf, tagOf, placeOf, Row, row-le}
+use Rattle.tree.specs.Rose.{Rose, Roses, leaf, node, rnil, rcons, endOf, placeOf, Row, row-le}
 use Rattle.tree.specs.Rose as rose
 use Rattle.tree.specs.Leaf.{isLeaf}
 use Rattle.tree.specs.Grammar.{Obeys, Obey}

@@ -1,10 +1,10 @@
 -- What the check of tree bytes says, and that it can say one thing only. Document 01: "2: input over 32,768 bytes; 3: .. tree .. not well formed; 4: nesting
 -- .. over 512 in a tree; 5: definitions nested over 64, compiled or not .. The lowest applicable of 2 to 6 and 8 is given .. tree nesting, fields open at
 -- once". 0 is that none of these applies. Assumes nothing.
-use Prim.Native.Nat.{ℕ, _+_, _≤_, _<_, max}
+use Prim.Native.Nat.{ℕ, _≤_, _<_}
 use native.Mathlib.Nat.{max-zero}
 use native.Mathlib.Omega.{arith}
-use mathlib.Core.Path.{_≡_, refl, sym, subst}
+use mathlib.Core.Path.{_≡_, refl}
 use mathlib.Core.List.{List, []}
 use mathlib.Core.Bool.{true, cond}
 use lib.Dec.{leb}

@@ -20,9 +20,12 @@ ghost use Rattle.tree.specs.Nest.{counts, mark, pop, pushed, Shallow, st
 ghost use Rattle.tree.specs.Verdict.{Says, limits};
 ghost use Rattle.tree.specs.Wf.{Wf, Decided};
 ghost use Rattle.tree.specs.Count.{Passed};
-ghost use Rattle.tree.specs.Formed.{Formed};
+ghost use Rattle.tree.specs.Formed.{Formed, Stepped};
 
 // ---- rows of members
+//
+// A row of the table is gone along by the index of the item that is due. There are 106 items; the last, 105, is where no row goes on. The class of terms is
+// 18. A tag's shape is the index where its row starts, or from 200 on a kind of leaf.
 
 // Is the item one that takes terms beside its own class, and c the class of terms?
 fn mixes(it: u8, c: u8) -> bool
@@ -214,9 +217,27 @@ fn mark(on: bool) -> usize
     0
 }
 
-// Are the bytes those of a tree, its module numbers aside?
-fn formed(t: &[u8], b: &[u8]) -> Found
-    requires { ⌜ (length (now b) ≤ 32768) × (now t ≡ table) ⌝ }
+// The header after the one at p, which ends at e and has the shape s; 0 where its content is not right.
+fn content(t: &[u8], b: &[u8], p: usize, e: usize, s: usize) -> usize
+    requires { ⌜ (e ≡ endOf (now b) p) × (e ≤ length (now b)) × (length (now b) ≤ 32768) × (s ≡ shape (getD (now b) p 0)) × (s < 200 → s < 106) × (now t ≡ table) ⌝ }
+    ensures { λ r. ⌜ Stepped (now (b .entry)) p r ⌝ }
+{
+    if s >= 200 {
+        if leaf_ok(b, p + 3, e, s) {
+            return e;
+        }
+        return 0;
+    }
+    if row(t, b, p + 3, e, s) {
+        return p + 3;
+    }
+    0
+}
+
+// Is each header right, where the bytes themselves are one field of a tree? That a field ends within the bytes follows from what was right before it; to
+// test it is cheaper than to say so of every field that is still to come.
+fn each_header(t: &[u8], b: &[u8]) -> Found
+    requires { ⌜ (length (now b) ≤ 32768) × (now t ≡ table) × Local (now b) (length (now b)) (rowAt 0) 0 ⌝ }
     ensures { λ r. ⌜ Formed (now (b .entry)) r ⌝ }
 {
     let n = b.len();
@@ -225,43 +246,47 @@ fn formed(t: &[u8], b: &[u8]) -> Found
         nodes: 0,
         definitions: 0,
     };
-    if row(t, b, 0, n, 0) {
-        let mut p = 0;
-        let mut nodes = 0;
-        let mut definitions = 0;
-        while p < n {
-            if n - p < 3 {
-                return bad;
-            }
-            let e = end_of(b, p);
-            if e > n {
-                return bad;
-            }
-            let k = b[p];
-            let s = table::shape(t, k);
-            if s >= 200 {
-                if leaf_ok(b, p + 3, e, s) {
-                    p = e;
-                } else {
-                    return bad;
-                }
-            } else {
-                if row(t, b, p + 3, e, s) {
-                    definitions += mark(k == 0x8C);
-                    nodes += 1;
-                    p += 3;
-                } else {
-                    return bad;
-                }
-            }
+    let mut p = 0;
+    let mut nodes = 0;
+    let mut definitions = 0;
+    while p < n {
+        if n - p < 3 {
+            return bad;
         }
-        return Found {
-            ok: true,
-            nodes: nodes,
-            definitions: definitions,
-        };
+        let e = end_of(b, p);
+        if e > n {
+            return bad;
+        }
+        let k = b[p];
+        let s = table::shape(t, k);
+        let q = content(t, b, p, e, s);
+        if q == 0 {
+            return bad;
+        }
+        definitions += mark(k == 0x8C);
+        nodes += mark(s < 200);
+        p = q;
     }
-    bad
+    Found {
+        ok: true,
+        nodes: nodes,
+        definitions: definitions,
+    }
+}
+
+// Are the bytes those of a tree, its module numbers aside?
+fn formed(t: &[u8], b: &[u8]) -> Found
+    requires { ⌜ (length (now b) ≤ 32768) × (now t ≡ table) ⌝ }
+    ensures { λ r. ⌜ Formed (now (b .entry)) r ⌝ }
+{
+    if row(t, b, 0, b.len(), 0) {
+        return each_header(t, b);
+    }
+    Found {
+        ok: false,
+        nodes: 0,
+        definitions: 0,
+    }
 }
 
 // ---- module numbers

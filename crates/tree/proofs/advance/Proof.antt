@@ -1,3 +1,4 @@
+-- `tree::advance`: the first item takes the member, or `skip` finds what does. Assumes nothing.
 use mathlib.Core.Path.{refl}
 use Rattle.tree.proofs.Rows.{at-taken}
 use borrow.Author.Needs.{needs}
@@ -8,31 +9,24 @@ use Rattle.tree.proofs.advance.Lts as lts
 use Rattle.tree.proofs.skip.Reads as skip-reads
 use Rattle.tree.proofs.table.item.Reads as item-reads
 
--- src/lib.rt:62:9
 item-requires : tie.Need-item-requires
 item-requires c κs = search needs
 
--- src/lib.rt:64:16
 add-result : tie.Need-add-result
 add-result c = search needs
 
--- src/lib.rt:64:24
 cast-result : tie.Need-cast-result
 cast-result c = search needs
 
--- src/lib.rt:64:16
 sub-result : tie.Need-sub-result
 sub-result c = search needs
 
--- src/lib.rt:64:9
 returns : tie.Need-returns
 returns c = at-taken _ _ (c .before .before .before .pre .0) (c .before .item .ensures) _ (c .if1 .taken) (c .before .before .before .pre .1) _ refl
 
--- src/lib.rt:66:5
 skip-requires : tie.Need-skip-requires
 skip-requires c κs = search needs
 
--- src/lib.rt:58:1
 returns-2 : tie.Need-returns-2
 returns-2 c = search needs
 

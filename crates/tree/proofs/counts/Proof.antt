@@ -1,17 +1,15 @@
+-- `tree::counts` answers `counts`. Assumes nothing.
 use Rattle.tree.specs.Nest.{counts}
 use borrow.Author.Tests.{eq-eqb, ne-eqb}
-use borrow.Author.Needs.{needs}
 use Rattle.tree.proofs.counts.Statement.{statement}
 use Rattle.tree.proofs.counts.Tie as tie
 use Rattle.tree.proofs.counts.Reads as reads
 use Rattle.tree.proofs.counts.Lts as lts
 
--- src/lib.rt:227:9
 returns : tie.Need-returns
 unfolding counts
 returns c = simp (eq-eqb _ _ (c .if1 .taken))
 
--- src/lib.rt:223:1
 returns-2 : tie.Need-returns-2
 unfolding counts
 returns-2 c = simp (ne-eqb _ _ (c .if1 .left))

@@ -1,3 +1,4 @@
+-- `tree::definitions_ok`: few definitions cannot be open at once in great number; else the walk decides. Assumes nothing.
 use native.Mathlib.Omega.{arith}
 use Rattle.tree.proofs.Seen.{few-defs}
 use borrow.Author.Needs.{needs}
@@ -7,19 +8,15 @@ use Rattle.tree.proofs.definitions_ok.Reads as reads
 use Rattle.tree.proofs.definitions_ok.Lts as lts
 use Rattle.tree.proofs.shallow.Reads as shallow-reads
 
--- src/lib.rt:415:9
 returns : tie.Need-returns
 returns c = let w = c .before .before .before .pre in few-defs _ _ (w .1) (w .3) (omega (arith, c .if1 .taken))
 
--- src/lib.rt:418:29
 slice-aggregate-shallow : tie.Need-slice-aggregate-shallow
 slice-aggregate-shallow c = search needs
 
--- src/lib.rt:418:5
 shallow-requires : tie.Need-shallow-requires
 shallow-requires c κs = search needs
 
--- src/lib.rt:410:1
 returns-2 : tie.Need-returns-2
 returns-2 c = search needs
 

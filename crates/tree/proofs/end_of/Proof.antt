@@ -1,3 +1,4 @@
+-- `tree::end_of` answers `endOf`: no sum wraps, since the bytes are at most 32,768. Assumes nothing.
 use native.Mathlib.Omega.{arith}
 use Prim.Native.Nat.{_+_}
 use borrow.Author.Needs.{needs}
@@ -6,47 +7,36 @@ use Rattle.tree.proofs.end_of.Tie as tie
 use Rattle.tree.proofs.end_of.Reads as reads
 use Rattle.tree.proofs.end_of.Lts as lts
 
--- src/lib.rt:118:5
 add-result : tie.Need-add-result
 add-result c = search needs
 
--- src/lib.rt:118:17
 add-result-2 : tie.Need-add-result-2
 add-result-2 c = search needs
 
--- src/lib.rt:118:15
 shared-slice-read-result : tie.Need-shared-slice-read-result
 shared-slice-read-result c = search needs
 
--- src/lib.rt:118:15
 cast-result : tie.Need-cast-result
 cast-result c = omega (arith, c .shared-slice-known .given (c .before .args .p + 1))
 
--- src/lib.rt:118:39
 add-result-3 : tie.Need-add-result-3
 add-result-3 c = search needs
 
--- src/lib.rt:118:37
 shared-slice-read-result-2 : tie.Need-shared-slice-read-result-2
 shared-slice-read-result-2 c = search needs
 
--- src/lib.rt:118:37
 cast-result-2 : tie.Need-cast-result-2
 cast-result-2 c = omega (arith, c .shared-slice-known2 .given (c .before .before .args .p + 2), c .before .shared-slice-known .given (c .before .before .args .p + 1))
 
--- src/lib.rt:118:36
 mul-result : tie.Need-mul-result
 mul-result c = omega (arith, c .shared-slice-known2 .given (c .before .before .args .p + 2), c .before .shared-slice-known .given (c .before .before .args .p + 1))
 
--- src/lib.rt:118:14
 add-result-4 : tie.Need-add-result-4
 add-result-4 c = omega (arith, c .shared-slice-known2 .given (c .before .before .args .p + 2), c .before .shared-slice-known .given (c .before .before .args .p + 1))
 
--- src/lib.rt:118:5
 add-result-5 : tie.Need-add-result-5
 add-result-5 c = omega (arith, c .shared-slice-known2 .given (c .before .before .args .p + 2), c .before .shared-slice-known .given (c .before .before .args .p + 1))
 
--- src/lib.rt:114:1
 returns : tie.Need-returns
 returns c = search needs
 

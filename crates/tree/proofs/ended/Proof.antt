@@ -1,3 +1,4 @@
+-- `tree::ended`: the ends that are passed are taken off the stack. Assumes nothing.
 use Rattle.tree.proofs.Deep.{pop-stop, pop-more, pop-none}
 use mathlib.Core.Path.{_≡_, _∙_, refl}
 use native.Mathlib.Omega.{arith}
@@ -16,43 +17,33 @@ Inv-loop ends d p i₀ i = (i ≤ d) × (d ≤ length ends) × (pop p (stackOf e
 abbrev μ-loop : tie.MeasureT-loop
 μ-loop ends d p i₀ i = i
 
--- src/lib.rt:247:5
 loop-holds : tie.Need-loop-holds Inv-loop μ-loop
 loop-holds c = (search needs, search needs, refl)
 
--- src/lib.rt:248:18
 sub-if1 : tie.Need-sub-if1 Inv-loop μ-loop
 sub-if1 c = search needs
 
--- src/lib.rt:248:13
 mul-if1 : tie.Need-mul-if1 Inv-loop μ-loop
 mul-if1 c = search needs
 
--- src/lib.rt:248:13
 shared-slice-read-if1 : tie.Need-shared-slice-read-if1 Inv-loop μ-loop
 shared-slice-read-if1 c = search needs
 
--- src/lib.rt:248:13
 cast-if1 : tie.Need-cast-if1 Inv-loop μ-loop
 cast-if1 c = omega (arith, c .shared-slice-known .given (c .before .before .loop .i - 1))
 
--- src/lib.rt:249:13
 returns : tie.Need-returns Inv-loop μ-loop
 returns c = let a = c .before .before .before .before .args in (search needs, pop-stop (a .ends .now) (c .before .before .before .loop .i) (a .p) (c .before .before .loop-test .taken) (c .if1 .taken) ∙ c .before .before .before .loop .inv .2)
 
--- src/lib.rt:251:13
 sub-i : tie.Need-sub-i Inv-loop μ-loop
 sub-i c = search needs
 
--- src/lib.rt:247:5
 loop-less : tie.Need-loop-less Inv-loop μ-loop
 loop-less c = search needs
 
--- src/lib.rt:247:5
 loop-again : tie.Need-loop-again Inv-loop μ-loop
 loop-again c = let a = c .before .before .before .before .args in (search needs, search needs, pop-more (a .ends .now) (c .before .before .before .loop .i) (a .p) (c .before .before .loop-test .taken) (omega (arith, c .if1 .left)) ∙ c .before .before .before .loop .inv .2)
 
--- src/lib.rt:242:1
 returns-2 : tie.Need-returns-2 Inv-loop μ-loop
 returns-2 c = let a = c .before .before .args in (search needs, pop-none (a .ends .now) (c .before .loop .i) (a .p) (omega (arith, c .loop-test .left)) ∙ c .before .loop .inv .2)
 

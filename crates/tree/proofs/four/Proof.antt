@@ -1,3 +1,4 @@
+-- `tree::four` answers the `value` of four bytes, which fits. Assumes nothing.
 use native.Mathlib.Omega.{arith}
 use Prim.Native.Nat.{_+_}
 use Rattle.tree.proofs.Leaves.{four-value}
@@ -7,75 +8,57 @@ use Rattle.tree.proofs.four.Tie as tie
 use Rattle.tree.proofs.four.Reads as reads
 use Rattle.tree.proofs.four.Lts as lts
 
--- src/lib.rt:143:6
 shared-slice-read-result : tie.Need-shared-slice-read-result
 shared-slice-read-result c = search needs
 
--- src/lib.rt:143:6
 cast-result : tie.Need-cast-result
 cast-result c = omega (arith, c .shared-slice-known .given (c .before .args .p))
 
--- src/lib.rt:143:24
 add-result : tie.Need-add-result
 add-result c = search needs
 
--- src/lib.rt:143:22
 shared-slice-read-result-2 : tie.Need-shared-slice-read-result-2
 shared-slice-read-result-2 c = search needs
 
--- src/lib.rt:143:22
 cast-result-2 : tie.Need-cast-result-2
 cast-result-2 c = omega (arith, c .shared-slice-known2 .given (c .before .before .args .p + 1), c .before .shared-slice-known .given (c .before .before .args .p))
 
--- src/lib.rt:143:21
 mul-result : tie.Need-mul-result
 mul-result c = omega (arith, c .shared-slice-known2 .given (c .before .before .args .p + 1), c .before .shared-slice-known .given (c .before .before .args .p))
 
--- src/lib.rt:143:5
 add-result-2 : tie.Need-add-result-2
 add-result-2 c = omega (arith, c .shared-slice-known2 .given (c .before .before .args .p + 1), c .before .shared-slice-known .given (c .before .before .args .p))
 
--- src/lib.rt:143:52
 add-result-3 : tie.Need-add-result-3
 add-result-3 c = search needs
 
--- src/lib.rt:143:50
 shared-slice-read-result-3 : tie.Need-shared-slice-read-result-3
 shared-slice-read-result-3 c = search needs
 
--- src/lib.rt:143:50
 cast-result-3 : tie.Need-cast-result-3
 cast-result-3 c = omega (arith, c .shared-slice-known3 .given (c .before .before .before .args .p + 2), c .before .shared-slice-known2 .given (c .before .before .before .args .p + 1), c .before .before .shared-slice-known .given (c .before .before .before .args .p))
 
--- src/lib.rt:143:49
 mul-result-2 : tie.Need-mul-result-2
 mul-result-2 c = omega (arith, c .shared-slice-known3 .given (c .before .before .before .args .p + 2), c .before .shared-slice-known2 .given (c .before .before .before .args .p + 1), c .before .before .shared-slice-known .given (c .before .before .before .args .p))
 
--- src/lib.rt:143:5
 add-result-4 : tie.Need-add-result-4
 add-result-4 c = omega (arith, c .shared-slice-known3 .given (c .before .before .before .args .p + 2), c .before .shared-slice-known2 .given (c .before .before .before .args .p + 1), c .before .before .shared-slice-known .given (c .before .before .before .args .p))
 
--- src/lib.rt:143:82
 add-result-5 : tie.Need-add-result-5
 add-result-5 c = search needs
 
--- src/lib.rt:143:80
 shared-slice-read-result-4 : tie.Need-shared-slice-read-result-4
 shared-slice-read-result-4 c = search needs
 
--- src/lib.rt:143:80
 cast-result-4 : tie.Need-cast-result-4
 cast-result-4 c = omega (arith, c .shared-slice-known4 .given (c .before .before .before .before .args .p + 3), c .before .shared-slice-known3 .given (c .before .before .before .before .args .p + 2), c .before .before .shared-slice-known2 .given (c .before .before .before .before .args .p + 1), c .before .before .before .shared-slice-known .given (c .before .before .before .before .args .p))
 
--- src/lib.rt:143:79
 mul-result-3 : tie.Need-mul-result-3
 mul-result-3 c = omega (arith, c .shared-slice-known4 .given (c .before .before .before .before .args .p + 3), c .before .shared-slice-known3 .given (c .before .before .before .before .args .p + 2), c .before .before .shared-slice-known2 .given (c .before .before .before .before .args .p + 1), c .before .before .before .shared-slice-known .given (c .before .before .before .before .args .p))
 
--- src/lib.rt:143:5
 add-result-6 : tie.Need-add-result-6
 add-result-6 c = omega (arith, c .shared-slice-known4 .given (c .before .before .before .before .args .p + 3), c .before .shared-slice-known3 .given (c .before .before .before .before .args .p + 2), c .before .before .shared-slice-known2 .given (c .before .before .before .before .args .p + 1), c .before .before .before .shared-slice-known .given (c .before .before .before .before .args .p))
 
--- src/lib.rt:139:1
 returns : tie.Need-returns
 returns c = let a = c .before .before .before .before .args in four-value (a .b .now) (a .p) (c .before .before .before .before .pre)
 

@@ -1,3 +1,4 @@
+-- `tree::is_operator` answers `isOperator`, range by range. Assumes nothing.
 use native.Mathlib.Omega.{arith}
 use borrow.Author.Needs.{needs}
 use Rattle.tree.proofs.Leaves.{op-none, op-low, op-math, op-cmp, op-update}
@@ -6,23 +7,18 @@ use Rattle.tree.proofs.is_operator.Tie as tie
 use Rattle.tree.proofs.is_operator.Reads as reads
 use Rattle.tree.proofs.is_operator.Lts as lts
 
--- src/lib.rt:140:13
 returns : tie.Need-returns
 returns c = op-none _ (search needs) (c .before .if1 .taken) (c .if2 .taken)
 
--- src/lib.rt:142:9
 returns-2 : tie.Need-returns-2
 returns-2 c = op-low _ (search needs) (c .before .if1 .taken) (c .if2 .left)
 
--- src/lib.rt:145:9
 returns-3 : tie.Need-returns-3
 returns-3 c = op-math _ (search needs) (omega (arith, c .before .if1 .left)) (c .if3 .taken)
 
--- src/lib.rt:148:9
 returns-4 : tie.Need-returns-4
 returns-4 c = op-cmp _ (search needs) (omega (arith, c .before .if3 .left)) (c .if4 .taken)
 
--- src/lib.rt:135:1
 returns-5 : tie.Need-returns-5
 returns-5 c = op-update _ (search needs) (omega (arith, c .if4 .left))
 

@@ -1,3 +1,4 @@
+-- `tree::is_text`: what is left is UTF-8 exactly if the whole is, while only ASCII was passed. Assumes nothing.
 use native.Mathlib.Omega.{arith}
 use mathlib.Core.Path.{_≡_, _∙_, refl}
 use Prim.Native.Nat.{_-_, _≤_}
@@ -16,47 +17,36 @@ Inv-loop b p e i₀ i = (text (part b i e) ≡ text (part b p e)) × (p ≤ i) �
 abbrev μ-loop : tie.MeasureT-loop
 μ-loop b p e i₀ i = e - i
 
--- src/lib.rt:112:8
 sub-if1 : tie.Need-sub-if1 Inv-loop μ-loop
 sub-if1 c = search needs
 
--- src/lib.rt:113:9
 is-utf8-requires : tie.Need-is-utf8-requires Inv-loop μ-loop
 is-utf8-requires c κs = search needs
 
--- src/lib.rt:113:9
 returns : tie.Need-returns Inv-loop μ-loop
 returns c = search needs
 
--- src/lib.rt:116:5
 loop-holds : tie.Need-loop-holds Inv-loop μ-loop
 loop-holds c = (refl, search needs, search needs)
 
--- src/lib.rt:117:12
 shared-slice-read-if2 : tie.Need-shared-slice-read-if2 Inv-loop μ-loop
 shared-slice-read-if2 c = search needs
 
--- src/lib.rt:118:13
 is-utf8-requires-2 : tie.Need-is-utf8-requires-2 Inv-loop μ-loop
 is-utf8-requires-2 c κs = search needs
 
--- src/lib.rt:118:13
 returns-2 : tie.Need-returns-2 Inv-loop μ-loop
 returns-2 c = c .is-utf82 .ensures ∙ c .before .before .before .before .loop .inv .0
 
--- src/lib.rt:120:9
 add-i : tie.Need-add-i Inv-loop μ-loop
 add-i c = search needs
 
--- src/lib.rt:116:5
 loop-less : tie.Need-loop-less Inv-loop μ-loop
 loop-less c = search needs
 
--- src/lib.rt:116:5
 loop-again : tie.Need-loop-again Inv-loop μ-loop
 loop-again c = let a = c .before .before .before .before .before .before .args in (text-next (a .b .now) (c .before .before .before .loop .i) (a .e) (c .before .before .loop-test .taken) (c .before .before .before .before .before .before .pre .1) (omega (arith, c .if2 .left)) ∙ c .before .before .before .loop .inv .0, search needs, search needs)
 
--- src/lib.rt:108:1
 returns-3 : tie.Need-returns-3 Inv-loop μ-loop
 returns-3 c = let a = c .before .before .before .before .args in text-done (a .b .now) (c .before .loop .i) (a .e) (omega (arith, c .loop-test .left)) ∙ c .before .loop .inv .0
 

@@ -1,3 +1,4 @@
+-- `tree::is_utf8`: the longest valid prefix is the whole. Assumes nothing.
 use Rattle.tree.proofs.Leaves.{text-whole}
 use borrow.Author.Needs.{needs}
 use Rattle.tree.proofs.is_utf8.Statement.{statement}
@@ -6,27 +7,21 @@ use Rattle.tree.proofs.is_utf8.Reads as reads
 use Rattle.tree.proofs.is_utf8.Lts as lts
 use Rattle.text.proofs.prefix.Reads as prefix-reads
 
--- src/lib.rt:104:18
 sub-prefix : tie.Need-sub-prefix
 sub-prefix c = search needs
 
--- src/lib.rt:104:18
 part-prefix-start : tie.Need-part-prefix-start
 part-prefix-start c = search needs
 
--- src/lib.rt:104:18
 part-prefix-end : tie.Need-part-prefix-end
 part-prefix-end c = search needs
 
--- src/lib.rt:104:5
 prefix-requires : tie.Need-prefix-requires
 prefix-requires c κs = search needs
 
--- src/lib.rt:104:31
 sub-result : tie.Need-sub-result
 sub-result c = search needs
 
--- src/lib.rt:100:1
 returns : tie.Need-returns
 returns c = let a = c .before .before .before .args in text-whole (a .b .now) (a .p) (a .e) _ (c .before .before .before .pre .0) (c .before .before .before .pre .1) (c .prefix .ensures)
 

@@ -1,3 +1,4 @@
+-- `tree::may_end`: the table says at each item whether the row may end there. Assumes nothing.
 use Rattle.tree.proofs.Rows.{told-end}
 use borrow.Author.Needs.{needs}
 use Rattle.tree.proofs.may_end.Statement.{statement}
@@ -6,11 +7,9 @@ use Rattle.tree.proofs.may_end.Reads as reads
 use Rattle.tree.proofs.may_end.Lts as lts
 use Rattle.tree.proofs.table.item.Reads as item-reads
 
--- src/lib.rt:65:5
 item-requires : tie.Need-item-requires
 item-requires c κs = search needs
 
--- src/lib.rt:61:1
 returns : tie.Need-returns
 returns c = told-end _ _ (c .before .before .pre .0) (c .item .ensures)
 

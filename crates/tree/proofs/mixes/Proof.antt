@@ -1,3 +1,4 @@
+-- `tree::mixes` answers its two tests. Assumes nothing.
 use borrow.Author.Tests.{eq-eqb, ne-eqb}
 use Rattle.tree.proofs.Leaves.{both-yes, both-no}
 use Rattle.tree.proofs.mixes.Statement.{statement}
@@ -5,11 +6,9 @@ use Rattle.tree.proofs.mixes.Tie as tie
 use Rattle.tree.proofs.mixes.Reads as reads
 use Rattle.tree.proofs.mixes.Lts as lts
 
--- src/lib.rt:30:9
 returns : tie.Need-returns
 returns c = both-yes _ _ (eq-eqb _ _ (c .if1 .taken))
 
--- src/lib.rt:26:1
 returns-2 : tie.Need-returns-2
 returns-2 c = both-no _ _ (ne-eqb _ _ (c .if1 .left))
 

@@ -1,3 +1,4 @@
+-- `tree::nested` answers `limits` of the tree. Assumes nothing.
 use Rattle.tree.proofs.Deep.{too-deep, too-nested, within-limits}
 use Rattle.tree.proofs.Decides.{said, denied}
 use borrow.Author.Needs.{needs}
@@ -8,23 +9,18 @@ use Rattle.tree.proofs.nested.Lts as lts
 use Rattle.tree.proofs.definitions_ok.Reads as definitions-ok-reads
 use Rattle.tree.proofs.fields_ok.Reads as fields-ok-reads
 
--- src/lib.rt:397:8
 fields-ok-requires : tie.Need-fields-ok-requires
 fields-ok-requires c κs = search needs
 
--- src/lib.rt:398:12
 definitions-ok-requires : tie.Need-definitions-ok-requires
 definitions-ok-requires c κs = search needs
 
--- src/lib.rt:399:13
 returns : tie.Need-returns
 returns c = λ t h. within-limits _ t h (said _ _ (c .before .before .before .fields-ok .ensures) (c .before .before .if1 .taken)) (said _ _ (c .before .definitions-ok .ensures) (c .if2 .taken))
 
--- src/lib.rt:401:9
 returns-2 : tie.Need-returns-2
 returns-2 c = λ t h. too-nested _ t h (said _ _ (c .before .before .before .fields-ok .ensures) (c .before .before .if1 .taken)) (denied _ _ (c .before .definitions-ok .ensures) (c .if2 .left))
 
--- src/lib.rt:393:1
 returns-3 : tie.Need-returns-3
 returns-3 c = λ t h. too-deep _ t h (denied _ _ (c .before .fields-ok .ensures) (c .if1 .left))
 

@@ -1,3 +1,4 @@
+-- `tree::next` answers `nextOf`. Assumes nothing.
 use native.Mathlib.Omega.{arith}
 use Rattle.tree.proofs.Deep.{next-leaf, next-row}
 use borrow.Author.Needs.{needs}
@@ -7,23 +8,18 @@ use Rattle.tree.proofs.next.Reads as reads
 use Rattle.tree.proofs.next.Lts as lts
 use Rattle.tree.proofs.table.shape.Reads as shape-reads
 
--- src/lib.rt:330:21
 shared-slice-read-shape : tie.Need-shared-slice-read-shape
 shared-slice-read-shape c = search needs
 
--- src/lib.rt:330:8
 shape-requires : tie.Need-shape-requires
 shape-requires c κs = search needs
 
--- src/lib.rt:331:9
 returns : tie.Need-returns
 returns c = let a = c .before .before .before .before .before .args in next-leaf (a .b .now) (a .p) (a .e) _ (c .before .before .before .before .before .pre .1) (c .before .shape .ensures .0) (omega (arith, c .if1 .taken))
 
--- src/lib.rt:333:5
 add-result : tie.Need-add-result
 add-result c = search needs
 
--- src/lib.rt:326:1
 returns-2 : tie.Need-returns-2
 returns-2 c = let a = c .before .before .before .before .before .args in next-row (a .b .now) (a .p) _ (c .before .shape .ensures .0) (omega (arith, c .if1 .left))
 

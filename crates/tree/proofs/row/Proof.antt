@@ -1,3 +1,4 @@
+-- `tree::row`: the headers from the loop's place on are right exactly if the whole row is. Assumes nothing.
 use native.Mathlib.Omega.{arith}
 use Prim.Native.Nat.{_-_, _≤_}
 use lib.ListN.{length}
@@ -18,51 +19,39 @@ Inv-loop t b p e s q₀ i₀ q i = Along b e s p i q × (e ≤ length b)
 abbrev μ-loop : tie.MeasureT-loop
 μ-loop t b p e s q₀ i₀ q i = e - q
 
--- src/lib.rt:92:5
 loop-holds : tie.Need-loop-holds Inv-loop μ-loop
 loop-holds c = (along-start _ _ _ _ (search needs) (search needs), search needs)
 
--- src/lib.rt:93:12
 sub-if1 : tie.Need-sub-if1 Inv-loop μ-loop
 sub-if1 c = search needs
 
--- src/lib.rt:94:13
 returns : tie.Need-returns Inv-loop μ-loop
 returns c = λ l. omega (arith, row-fits _ _ _ _ (c .before .loop-test .taken) (c .before .before .loop .inv .0 .no l), c .if1 .taken)
 
--- src/lib.rt:96:13
 end-of-requires : tie.Need-end-of-requires Inv-loop μ-loop
 end-of-requires c κs = search needs
 
--- src/lib.rt:98:13
 returns-2 : tie.Need-returns-2 Inv-loop μ-loop
 returns-2 c = λ l. omega (arith, row-fits _ _ _ _ (c .before .before .before .loop-test .taken) (c .before .before .before .before .loop .inv .0 .no l), c .if2 .taken, c .before .end-of .ensures)
 
--- src/lib.rt:100:37
 shared-slice-read-class : tie.Need-shared-slice-read-class Inv-loop μ-loop
 shared-slice-read-class c = search needs
 
--- src/lib.rt:100:24
 class-requires : tie.Need-class-requires Inv-loop μ-loop
 class-requires c κs = search needs
 
--- src/lib.rt:100:9
 advance-requires : tie.Need-advance-requires Inv-loop μ-loop
 advance-requires c κs = search needs
 
--- src/lib.rt:92:5
 loop-less : tie.Need-loop-less Inv-loop μ-loop
 loop-less c = search needs
 
--- src/lib.rt:92:5
 loop-again : tie.Need-loop-again Inv-loop μ-loop
 loop-again c = (along-next _ _ _ _ _ _ _ _ _ (c .before .before .before .before .before .before .before .loop .inv .0) (c .before .before .before .before .before .before .loop-test .taken) (c .before .before .before .before .end-of .ensures) (omega (arith, c .before .before .before .if2 .left)) (c .before .class .ensures .0) (c .advance .ensures), search needs)
 
--- src/lib.rt:103:5
 may-end-requires : tie.Need-may-end-requires Inv-loop μ-loop
 may-end-requires c κs = search needs
 
--- src/lib.rt:86:1
 returns-3 : tie.Need-returns-3 Inv-loop μ-loop
 returns-3 c = along-end _ _ _ _ _ _ _ (c .before .before .loop .inv .0) (omega (arith, c .before .loop-test .left)) (c .may-end .ensures)
 

@@ -1,7 +1,8 @@
+-- `tree::shallow`: the walk from the loop's place on stays within the limit exactly if the whole does. Assumes nothing.
 use Rattle.tree.proofs.Deep.{Walking, walk-start, walk-deep, walk-next, walk-end, all-fits, next-lt}
-use mathlib.Core.Path.{_≡_, _∙_, refl, sym, ap}
+use mathlib.Core.Path.{_≡_, _∙_}
 use native.Mathlib.Omega.{arith}
-use Prim.Native.Nat.{_-_, _≤_, _+_}
+use Prim.Native.Nat.{_-_}
 use lib.ListN.{length}
 use Rattle.tree.specs.Nest.{mark}
 use borrow.Author.Needs.{needs}
@@ -22,63 +23,48 @@ Inv-loop t b only limit ends₀ p₀ d₀ ends p d = Walking b only limit p d en
 abbrev μ-loop : tie.MeasureT-loop
 μ-loop t b only limit ends₀ p₀ d₀ ends p d = length b - p
 
--- src/lib.rt:286:5
 loop-holds : tie.Need-loop-holds Inv-loop μ-loop
 loop-holds c = (walk-start _ _ _ _ (c .before .before .before .pre .1) (c .before .before .before .pre .2), search needs)
 
--- src/lib.rt:287:13
 ended-requires : tie.Need-ended-requires Inv-loop μ-loop
 ended-requires c κs = search needs
 
--- src/lib.rt:288:13
 end-of-requires : tie.Need-end-of-requires Inv-loop μ-loop
 end-of-requires c κs = (omega (arith, all-fits _ _ (c .before .before .before .loop .inv .0 .all) (c .before .before .loop-test .taken)), search needs)
 
--- src/lib.rt:289:31
 shared-slice-read-counts : tie.Need-shared-slice-read-counts Inv-loop μ-loop
 shared-slice-read-counts c = search needs
 
--- src/lib.rt:289:13
 counts-requires : tie.Need-counts-requires Inv-loop μ-loop
 counts-requires c κs = search needs
 
--- src/lib.rt:290:17
 mark-requires : tie.Need-mark-requires Inv-loop μ-loop
 mark-requires c κs = search needs
 
--- src/lib.rt:290:12
 add-if1 : tie.Need-add-if1 Inv-loop μ-loop
 add-if1 c = omega (arith, c .mark .ensures .1)
 
--- src/lib.rt:291:13
 same-length : tie.Need-same-length Inv-loop μ-loop
 same-length c = search needs
 
--- src/lib.rt:291:13
 returns : tie.Need-returns Inv-loop μ-loop
 returns c = walk-deep _ _ _ _ _ _ (c .before .before .before .before .before .before .before .before .loop .inv .0) (c .before .before .before .before .before .before .before .loop-test .taken) _ (c .before .before .before .before .before .ended .ensures .1) _ (c .before .before .counts .ensures) (omega (arith, c .if1 .taken, c .before .mark .ensures .0))
 
--- src/lib.rt:293:9
 keep-requires : tie.Need-keep-requires Inv-loop μ-loop
 keep-requires c κs = (omega (arith, c .before .if1 .left, c .before .before .mark .ensures .0, (c .before .before .before .before .before .before .before .before .before .loop .inv .0) .room), omega (arith, all-fits _ _ (c .before .before .before .before .before .before .before .before .before .loop .inv .0 .all) (c .before .before .before .before .before .before .before .before .loop-test .taken), c .before .before .before .before .before .end-of .ensures, c .before .before .before .before .before .before .before .before .before .before .before .before .before .pre .0))
 
--- src/lib.rt:294:9
 next-requires : tie.Need-next-requires Inv-loop μ-loop
 next-requires c κs = (omega (arith, all-fits _ _ (c .before .before .before .before .before .before .before .before .before .before .before .before .loop .inv .0 .all) (c .before .before .before .before .before .before .before .before .before .before .before .loop-test .taken)), c .before .before .before .before .before .before .before .before .end-of .ensures, search needs)
 
--- src/lib.rt:286:5
 loop-less : tie.Need-loop-less Inv-loop μ-loop
 loop-less c = omega (arith, next-lt (c .before .before .before .before .before .before .before .before .before .before .before .before .before .before .before .before .before .args .b .now) (c .before .before .before .before .before .before .before .before .before .before .before .before .before .loop .p) _ (c .next .ensures), c .before .before .before .before .before .before .before .before .before .before .before .before .loop-test .taken)
 
--- src/lib.rt:286:5
 loop-again : tie.Need-loop-again Inv-loop μ-loop
 loop-again c = (walk-next _ _ _ _ _ _ (c .before .before .before .before .before .before .before .before .before .before .before .before .before .loop .inv .0) (c .before .before .before .before .before .before .before .before .before .before .before .before .loop-test .taken) _ (c .before .before .before .before .before .before .before .before .before .before .ended .ensures .1) _ (c .before .before .before .before .before .before .before .counts .ensures) (omega (arith, c .before .before .before .before .before .if1 .left, c .before .before .before .before .before .before .mark .ensures .0)) _ _ _ _ (c .before .before .before .before .before .before .before .before .before .end-of .ensures) (c .before .before .before .keep .ensures .0) (c .before .before .before .keep .ensures .1) (c .before .before .before .keep .kept .0) (c .next .ensures), c .before .before .before .keep .kept .0 ∙ c .before .before .before .before .before .before .before .before .before .before .before .before .before .loop .inv .1)
 
--- src/lib.rt:280:1
 same-length-2 : tie.Need-same-length-2 Inv-loop μ-loop
 same-length-2 c = search needs
 
--- src/lib.rt:280:1
 returns-2 : tie.Need-returns-2 Inv-loop μ-loop
 returns-2 c = walk-end _ _ _ _ _ _ (c .before .loop .inv .0) (omega (arith, c .loop-test .left))
 

@@ -1,3 +1,4 @@
+-- `tree::skip`: what follows the member is the same from each item that was passed over. Assumes nothing.
 use native.Mathlib.Omega.{arith}
 use mathlib.Core.Path.{_≡_, _∙_, sym, refl}
 use Prim.Native.Nat.{_-_, _<_}
@@ -17,55 +18,42 @@ Inv-loop t i c j₀ j = (after (rowAt j) c ≡ after (rowAt i) c) × (j < 106)
 abbrev μ-loop : tie.MeasureT-loop
 μ-loop t i c j₀ j = 106 - j
 
--- src/lib.rt:41:5
 loop-holds : tie.Need-loop-holds Inv-loop μ-loop
 loop-holds c = search needs
 
--- src/lib.rt:42:13
 item-requires : tie.Need-item-requires Inv-loop μ-loop
 item-requires c κs = search needs
 
--- src/lib.rt:44:20
 add-result : tie.Need-add-result Inv-loop μ-loop
 add-result c = search needs
 
--- src/lib.rt:44:28
 cast-result : tie.Need-cast-result Inv-loop μ-loop
 cast-result c = search needs
 
--- src/lib.rt:44:20
 sub-result : tie.Need-sub-result Inv-loop μ-loop
 sub-result c = search needs
 
--- src/lib.rt:44:13
 returns : tie.Need-returns Inv-loop μ-loop
 returns c = let w = at-taken _ _ (c .before .before .before .loop .inv .1) (c .before .item .ensures) _ (c .if1 .taken) (c .before .before .before .before .before .pre .1) _ refl in (w .0 ∙ c .before .before .before .loop .inv .0, w .1)
 
--- src/lib.rt:47:13
 returns-2 : tie.Need-returns-2 Inv-loop μ-loop
 returns-2 c = (at-stop _ _ (c .before .before .before .before .loop .inv .1) (c .before .before .item .ensures) _ (c .before .if1 .left) (c .if2 .taken) ∙ c .before .before .before .before .loop .inv .0, search needs)
 
--- src/lib.rt:49:12
 mixes-requires : tie.Need-mixes-requires Inv-loop μ-loop
 mixes-requires c κs = search needs
 
--- src/lib.rt:50:13
 returns-3 : tie.Need-returns-3 Inv-loop μ-loop
 returns-3 c = (at-mixed _ _ (c .before .before .before .before .before .before .loop .inv .1) (c .before .before .before .before .item .ensures) _ (c .before .before .before .if1 .left) (sym (c .before .mixes .ensures) ∙ c .if3 .taken) ∙ c .before .before .before .before .before .before .loop .inv .0, search needs)
 
--- src/lib.rt:52:9
 add-j : tie.Need-add-j Inv-loop μ-loop
 add-j c = search needs
 
--- src/lib.rt:41:5
 loop-less : tie.Need-loop-less Inv-loop μ-loop
 loop-less c = search needs
 
--- src/lib.rt:41:5
 loop-again : tie.Need-loop-again Inv-loop μ-loop
 loop-again c = (at-pass _ _ (c .before .before .before .before .before .before .loop .inv .1) (c .before .before .before .before .item .ensures) _ (c .before .before .before .if1 .left) (c .before .before .if2 .left) (sym (c .before .mixes .ensures) ∙ c .if3 .left) ∙ c .before .before .before .before .before .before .loop .inv .0, search needs)
 
--- src/lib.rt:36:1
 returns-4 : tie.Need-returns-4 Inv-loop μ-loop
 returns-4 c = (at-last _ _ (omega (arith, c .loop-test .left)) (c .before .loop .inv .1) ∙ c .before .loop .inv .0, search needs)
 

@@ -1,3 +1,4 @@
+-- `tree::verdict`: bytes that are too long, or what `judged` says with the table that was built. Assumes nothing.
 use native.Mathlib.Omega.{arith}
 use mathlib.Core.Path.{refl}
 use Rattle.tree.specs.Table.{classes, shapes, items, table}
@@ -9,20 +10,16 @@ use Rattle.tree.proofs.verdict.Reads as reads
 use Rattle.tree.proofs.verdict.Lts as lts
 use Rattle.tree.proofs.judged.Reads as judged-reads
 
--- src/lib.rt:430:9
 returns : tie.Need-returns
 returns c = long (omega (arith, c .if1 .taken))
 
--- src/lib.rt:433:12
 slice-aggregate-judged : tie.Need-slice-aggregate-judged
 slice-aggregate-judged c = search needs
 
--- src/lib.rt:433:5
 judged-requires : tie.Need-judged-requires
 unfolding table classes shapes items
 judged-requires c κs = (omega (arith, c .before .if1 .left), refl)
 
--- src/lib.rt:426:1
 returns-2 : tie.Need-returns-2
 returns-2 c = search needs
 

@@ -1,3 +1,4 @@
+-- `tree::table::class` answers `class`. Assumes nothing.
 use borrow.Author.Needs.{needs}
 use native.Mathlib.Omega.{arith}
 use Rattle.tree.proofs.Tables.{long-enough, class-read}
@@ -6,11 +7,9 @@ use Rattle.tree.proofs.table.class.Tie as tie
 use Rattle.tree.proofs.table.class.Reads as reads
 use Rattle.tree.proofs.table.class.Lts as lts
 
--- src/table.rt:635:5
 shared-slice-read-result : tie.Need-shared-slice-read-result
 shared-slice-read-result c = omega (arith, long-enough _ (c .before .pre), c .before .fits .k)
 
--- src/table.rt:631:1
 returns : tie.Need-returns
 returns c = class-read _ (c .before .pre) (c .before .args .k) (search needs)
 
