@@ -7,6 +7,7 @@ use lib.Dec.{eqb}
 use Rattle.fields.specs.declared.Answer.{Answer}
 use Rattle.fields.specs.Outcome.{Outcome, refusal, pick, Answers}
 use Rattle.climber.specs.Climbing.{climbing}
+use Rattle.lexer.specs.Lexing.{lexing}
 use Rattle.replay.specs.declared.Called.{Called}
 use Rattle.replay.specs.declared.Called.the-variants.{Gave, Unknown}
 use Rattle.replay.specs.declared.Shown.{Shown}
@@ -16,7 +17,7 @@ use Rattle.replay.specs.Lent.{Left}
 
 -- "entry (1 climb, 2 lex, 3 compile)": what the entry comes to. A byte that names no entry is never called, so that what stands for it says nothing.
 unfoldable pub outcome : ℕ → List ℕ → Outcome
-outcome entry input = pick (eqb entry 1) (climbing input) (refusal 0 0)
+outcome entry input = pick (eqb entry 1) (climbing input) (pick (eqb entry 2) (lexing input) (refusal 0 0))
 
 -- the recorded answer, and the recorded listing at the start of a room, are what the outcome promises
 abbrev pub HoldsOf : Outcome → List ℕ → Type 0

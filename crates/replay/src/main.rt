@@ -37,6 +37,7 @@ fn call(entry: u8, input: &[u8], room: &mut [u8]) -> Called
 {
     match entry {
         1 => Called::Gave(climber::climb(input, room)),
+        2 => Called::Gave(lexer::lex(input, room)),
         _ => Called::Unknown,
     }
 }
@@ -252,6 +253,7 @@ fn print_entry(name: &[u8], entry: u8, cases: &[u64; 256], mismatches: &[u64; 25
 // A line for each entry.
 fn print_entries(cases: &[u64; 256], mismatches: &[u64; 256]) {
     print_entry(b"climb", 1, cases, mismatches);
+    print_entry(b"lex", 2, cases, mismatches);
 }
 
 fn print_end(sample: &[u8], at: usize)
