@@ -1,1 +1,6 @@
-pub mod Entries
+pub mod Moves
+pub mod TreeWalk
+pub mod TableWalk
+pub mod Together
+pub mod Holds
+pub mod Agree

@@ -1,1 +1,0 @@
--- Entries of the two lists.
