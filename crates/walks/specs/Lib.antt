@@ -4,3 +4,7 @@ pub mod TableWalk
 pub mod Together
 pub mod Holds
 pub mod Agree
+pub mod Calls
+pub mod Match
+pub mod Places
+pub mod Rows
