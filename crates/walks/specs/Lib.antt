@@ -8,3 +8,6 @@ pub mod Calls
 pub mod Match
 pub mod Places
 pub mod Rows
+pub mod Members
+pub mod Folds
+pub mod Sums
