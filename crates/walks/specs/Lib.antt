@@ -11,3 +11,4 @@ pub mod Rows
 pub mod Members
 pub mod Folds
 pub mod Sums
+pub mod Forms

@@ -35,14 +35,14 @@ module _ (whole : Tree) (T : Table) (D : List (List Filter)) where
   Has ss n l = Each whole T D ss (ByNumber.members (nodesOf T) (here n l))
 
   -- a record without members
-  leaf-members : (n : ℕ) (l : Cells) (a : Leaf) → getElem? (nodesOf T) n ≡ some (leafNode a) → Has [] n l
+  pub leaf-members : (n : ℕ) (l : Cells) (a : Leaf) → getElem? (nodesOf T) n ≡ some (leafNode a) → Has [] n l
   leaf-members n l Leaf.identity q = rw q tt
   leaf-members n l Leaf.toString q = rw q tt
   leaf-members n l (Leaf.number i) q = rw q tt
   leaf-members n l (Leaf.text x) q = rw q tt
   leaf-members n l Leaf.emptyObj q = rw q tt
 
-  var-members : (n m p : ℕ) (x : Err) (l : Cells) (o : Option ℕ) → Holds T n m (varOut p x o) → Has [] n l
+  pub var-members : (n m p : ℕ) (x : Err) (l : Cells) (o : Option ℕ) → Holds T n m (varOut p x o) → Has [] n l
   unfolding varOut
   var-members n m p x l none h = absurd (has-error [] x (h .fine))
   var-members n m p x l (some i) h = rw (node-at T n _ (h .self)) tt
@@ -61,7 +61,7 @@ module _ (whole : Tree) (T : Table) (D : List (List Filter)) where
       let ns : List ℕ = args c ts e m .made in
       rw (numbers-bound ps ns (args-arity c ts e m ∙ z)) (each-ranked whole T D Role.argument 0 (arguments ts v) (atEach ns l) (both-args whole T D ts m c e v l s f g))
 
-  call-members : (ts : Terms) (n m p : ℕ) (x : Err) (r : Tail) (c : Top) (e : Env) (v : View) (l : Cells) {F : Found} {S : Seen} → Same whole T D (arity ts) (count e) l F S
+  pub call-members : (ts : Terms) (n m p : ℕ) (x : Err) (r : Tail) (c : Top) (e : Env) (v : View) (l : Cells) {F : Found} {S : Seen} → Same whole T D (arity ts) (count e) l F S
       → Holds T n m (callOut p (count e) r (args c ts e m) x F) → Agree whole T D c e v l → Has (ranked Role.argument 0 (arguments ts v)) n l
   unfolding callOut
   call-members ts n m p x r c e v l sNothing h g = absurd (has-error (args c ts e m .errs) x (h .fine))
@@ -72,7 +72,7 @@ module _ (whole : Tree) (T : Table) (D : List (List Filter)) where
 
   -- ---- operators
 
-  operator-members : (o : Operator) (n a b : ℕ) (l : Cells) (s u : ByName.State) → getElem? (nodesOf T) n ≡ some (binary o a b)
+  pub operator-members : (o : Operator) (n a b : ℕ) (l : Cells) (s u : ByName.State) → getElem? (nodesOf T) n ≡ some (binary o a b)
       → Match whole T D s (here a l) → Match whole T D u (here b l) → Has (operands o s u) n l
   operator-members oComma n a b l s u q h k = rw q (as-member whole T D Role.left 0 s (here a l) h, (as-member whole T D Role.right 0 u (here b l) k, tt))
   operator-members oAlt n a b l s u q h k = rw q (as-member whole T D Role.left 0 s (here a l) h, (as-member whole T D Role.right 0 u (here b l) k, tt))
