@@ -12,3 +12,5 @@ pub mod Members
 pub mod Folds
 pub mod Sums
 pub mod Forms
+pub mod Enter
+pub mod Steps

@@ -13,7 +13,7 @@ use Rattle.rules.specs.Modules.{globalsOf, importedFrom, compile}
 use Rattle.rules.specs.Outs.{arity}
 use Rattle.walks.specs.Moves.{Move}
 use Rattle.walks.specs.TreeWalk as ByName
-use Rattle.walks.specs.TreeWalk.{View, Entry, Spot, Home}
+use Rattle.walks.specs.TreeWalk.{View, Entry, Spot, Home, Seen}
 use Rattle.walks.specs.TableWalk as ByNumber
 use Rattle.walks.specs.TableWalk.{Cells, Cell}
 
@@ -59,10 +59,52 @@ module _ (whole : Tree) (T : Table) where
   SamePick (some a) none = ⊥
   SamePick (some a) (some b) = SameEntry a b
 
+  -- in an accepted program every name means something: a variable or a break picks an entry, a call means an argument, a definition or a native
+  abbrev pub Present : Option Entry → Type 0
+  Present none = ⊥
+  Present (some a) = Unit {0}
+
+  abbrev pub Known : Seen → Type 0
+  Known Seen.nothing = ⊥
+  Known (Seen.argument a) = Unit {0}
+  Known (Seen.defined d w) = Unit {0}
+  Known Seen.native = Unit {0}
+
+  abbrev pub TermFinds : Term → View → Type 0
+  TermFinds (tVar p x) v = Present (ByName.pickedAt whole (tVar p x) v)
+  TermFinds (tBreak p x) v = Present (ByName.pickedAt whole (tBreak p x) v)
+  TermFinds (tCall p f ts) v = Known (ByName.seen whole (f .text) (arity ts) v)
+  TermFinds (tId p) v = Unit {0}
+  TermFinds (tRecurse p) v = Unit {0}
+  TermFinds (tArr p o) v = Unit {0}
+  TermFinds (tNeg p t) v = Unit {0}
+  TermFinds (tLabel p x t) v = Unit {0}
+  TermFinds (tIfThenElse p q t u bs) v = Unit {0}
+  TermFinds (tDef p ds t) v = Unit {0}
+  TermFinds (tNum p x) v = Unit {0}
+  TermFinds (tTryCatch p t o) v = Unit {0}
+  TermFinds (tFold p f t x ts) v = Unit {0}
+  TermFinds (tPipe p t q x u) v = Unit {0}
+  TermFinds (tBinOp p t q x u) v = Unit {0}
+  TermFinds (tPath p t ps) v = Unit {0}
+  TermFinds (tStr p f ss) v = Unit {0}
+  TermFinds (tObj p es) v = Unit {0}
+
+  abbrev pub Finds : Spot → View → Type 0
+  Finds (Spot.at t) v = TermFinds t v
+  Finds (Spot.call p x) v = Known (ByName.seen whole x 0 v)
+  Finds (Spot.leaf p a) v = Unit {0}
+  Finds (Spot.shown p f t) v = Unit {0}
+  Finds (Spot.parts p f x ss) v = Unit {0}
+  Finds (Spot.single p t o) v = Unit {0}
+  Finds (Spot.entries p t o es) v = Unit {0}
+  Finds (Spot.reading p t) v = Unit {0}
+
   pub record Stand (s : ByName.State) (b : ByNumber.State) : Type 0 where
     pub place : PlaceAt (b .at) (ByName.placeOf (s .spot))
     pub lists : Alike (s .view) (b .list)
     pub picks : SamePick (ByName.picked whole s) (ByNumber.picked (nodesOf T) b)
+    pub finds : Finds (s .spot) (s .view)
 
   -- both walks have made the moves and stand together, or a move was there for neither
   abbrev pub Together : Option ByName.State → Option ByNumber.State → Type 0
