@@ -14,3 +14,4 @@ pub mod Sums
 pub mod Forms
 pub mod Enter
 pub mod Steps
+pub mod Whole
