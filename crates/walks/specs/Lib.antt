@@ -15,3 +15,4 @@ pub mod Forms
 pub mod Enter
 pub mod Steps
 pub mod Whole
+pub mod Examples
