@@ -16,3 +16,5 @@ pub mod Enter
 pub mod Steps
 pub mod Whole
 pub mod Examples
+pub mod Reader
+pub mod ReadBack
