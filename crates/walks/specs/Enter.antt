@@ -103,6 +103,7 @@ module _ (whole : Tree) (T : Table) (D : List (List Filter)) where
     pub passed : Moved whole T D (ByName.intoArgument S) (ByNumber.through (ByNumber.picked (nodesOf T) (here n l)))
     pub picks : SamePick whole T (ByName.pickedArgument S) (ByNumber.picked (nodesOf T) (here n l))
     pub known : Known whole T S
+    pub form : ByName.callTag S ≡ ByNumber.tagOf (getElem? (nodesOf T) n)
 
   through-arg : (x : Name) (t : Term) (n : ℕ) (r : Tail) (c : Top) (e : Env) (v : View) (l : Cells) (o : Option Cell) → o ≡ some (Cell.arg n l)
       → Holds T n (suc n) (term c t e (suc n) r) → Agree whole T D c e v l
@@ -120,6 +121,7 @@ module _ (whole : Tree) (T : Table) (D : List (List Filter)) where
         passed = rw (node-at T n _ (h .self)) (through-arg y t k r′ c′ e′ v′ l′ _ q h′ g′ .0);
         picks = rw (node-at T n _ (h .self)) (through-arg y t k r′ c′ e′ v′ l′ _ q h′ g′ .1);
         known = tt;
+        form = rw (node-at T n _ (h .self));
       }
   call-acts ts n m p x r c e v l (sLocal d {p = p′} {t = t} r′ {c = c′} {e = e′} {v = v′} z b h′ g′) h g =
       record {
@@ -127,6 +129,7 @@ module _ (whole : Tree) (T : Table) (D : List (List Filter)) where
         passed = rw (node-at T n _ (h .self)) tt;
         picks = rw (node-at T n _ (h .self)) tt;
         known = tt;
+        form = rw (node-at T n _ (h .self));
       }
   call-acts ts n m p x r c e v l (sModule d {p = p′} {t = t} r′ {c = c′} {e = e′} {v = v′} z h′ g′) h g =
       record {
@@ -134,6 +137,7 @@ module _ (whole : Tree) (T : Table) (D : List (List Filter)) where
         passed = rw (node-at T n _ (h .self)) tt;
         picks = rw (node-at T n _ (h .self)) tt;
         known = tt;
+        form = rw (node-at T n _ (h .self));
       }
   call-acts ts n m p x r c e v l (sNative z) h g =
-      record { called = rw (node-at T n _ (h .self)) tt; passed = rw (node-at T n _ (h .self)) tt; picks = rw (node-at T n _ (h .self)) tt; known = tt }
+      record { called = rw (node-at T n _ (h .self)) tt; passed = rw (node-at T n _ (h .self)) tt; picks = rw (node-at T n _ (h .self)) tt; known = tt; form = rw (node-at T n _ (h .self)) }

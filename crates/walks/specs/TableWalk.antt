@@ -276,3 +276,42 @@ walk T (m ∷ ms) (some s) = walk T ms (step T m s)
 -- "Both walks start at main without locals.": main's number, and the count of imported variables and of globals
 abbrev pub start : ℕ → ℕ → ℕ → State
 start main i g = here main (outer i g)
+
+-- ---- the form of a record: "Terms have tags 50 to 6B in the order of `Term`"
+
+abbrev pub nodeTag : Node → ℕ
+nodeTag nId = 0x50
+nodeTag nRecurse = 0x51
+nodeTag nToString = 0x52
+nodeTag (nInt i) = 0x53
+nodeTag (nNum x) = 0x54
+nodeTag (nStr x) = 0x55
+nodeTag (nArr a) = 0x56
+nodeTag nObjEmpty = 0x57
+nodeTag (nObjSingle a b) = 0x58
+nodeTag (nVar i) = 0x59
+nodeTag (nCallDef d as′ s k) = 0x5A
+nodeTag (nNative i as′) = 0x5B
+nodeTag (nLabel a) = 0x5C
+nodeTag (nNeg a) = 0x5D
+nodeTag (nPipe a x b) = 0x5E
+nodeTag (nComma a b) = 0x5F
+nodeTag (nAssign a b) = 0x60
+nodeTag (nUpdate a b) = 0x61
+nodeTag (nUpdateMath a k b) = 0x62
+nodeTag (nUpdateAlt a b) = 0x63
+nodeTag (nLogic a o b) = 0x64
+nodeTag (nMath a k b) = 0x65
+nodeTag (nCmp a k b) = 0x66
+nodeTag (nAlt a b) = 0x67
+nodeTag (nTryCatch a b) = 0x68
+nodeTag (nIte a b c) = 0x69
+nodeTag (nFold a x b c f) = 0x6A
+nodeTag (nPath a ss) = 0x6B
+
+abbrev pub tagOf : Option Node → ℕ
+tagOf none = 0
+tagOf (some x) = nodeTag x
+
+abbrev pub tag : List Node → State → ℕ
+tag T s = tagOf (getElem? T (s .at))

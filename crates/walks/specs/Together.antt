@@ -102,6 +102,8 @@ module _ (whole : Tree) (T : Table) where
 
   pub record Stand (s : ByName.State) (b : ByNumber.State) : Type 0 where
     pub place : PlaceAt (b .at) (ByName.placeOf (s .spot))
+    -- the record is of the form that the field has
+    pub form : ByName.tag whole s ≡ ByNumber.tag (nodesOf T) b
     pub lists : Alike (s .view) (b .list)
     pub picks : SamePick (ByName.picked whole s) (ByNumber.picked (nodesOf T) b)
     pub finds : Finds (s .spot) (s .view)

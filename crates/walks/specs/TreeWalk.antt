@@ -1,17 +1,17 @@
 -- The walk by names in the tree: where it stands, what is in view there, and where each move leads. Each sentence of document 01's section "The two walks"
 -- stands above what it says. It knows no number of the table: bindings and filters are found by name alone. Assumes nothing.
-use Prim.Native.Nat.{ℕ, suc}
+use Prim.Native.Nat.{ℕ, suc, _-_, _^_}
 use mathlib.Core.Bool.{Bool, true, false, cond, _&&_}
 use mathlib.Core.Option.{Option, none, some}
 use mathlib.Core.List.{List, [], _∷_, _++_}
 use lib.ListN.{length, getElem?}
-use lib.Dec.{eqb, ltb}
+use lib.Dec.{eqb, ltb, leb}
 use Rattle.fields.specs.Number as Bytes
 use Rattle.text.specs.Utf8.{utf8}
 use Rattle.tree.specs.Tree.{Name, Number, Native, Uses, Module, Tree, Term, OptTerm, noTerm, aTerm, Terms, tsNil, tsCons, Branches, bNone, bElse, bPair, Defs, dsNil, dsCons, Def, def, Pattern, pVar, pArr, pObj, OptPattern, noPattern, aPattern, Patterns, psNil, psCons, PatEntries, pesNil, pesCons, Parts, partsNil, partsCons, Part, partIndex, partRange, Bound, noBound, aBound, StrParts, sNil, sCons, StrPart, sText, sChar, sTerm, Entries, esNil, esCons, Format, noFormat, aFormat, Operator, oComma, oAlt, oOr, oAnd, oAssign, oUpdate, oUpdateAlt, oMath, oUpdateMath, oCmp, oNone, operator, termPlace, tId, tRecurse, tArr, tNeg, tLabel, tBreak, tIfThenElse, tVar, tCall, tDef, tNum, tTryCatch, tFold, tPipe, tBinOp, tPath, tStr, tObj}
 use Rattle.rules.specs.Names.{Text, ascii, same, isVar, Parted, plain, parted, parting}
 use Rattle.rules.specs.Filters.{Imported, importNamed}
-use Rattle.rules.specs.Outs.{varName, vars, varsOf, arity}
+use Rattle.rules.specs.Outs.{areDigits, decimal, varName, vars, varsOf, arity}
 use Rattle.rules.specs.Modules.{globalsOf, importedFrom}
 use Rattle.walks.specs.Moves.{Role, Move, Member, lone, ranked, pick}
 
@@ -529,3 +529,69 @@ pickedSpot whole (reading p t) v = none
 
 abbrev pub picked : Tree → State → Option Entry
 picked whole s = pickedSpot whole (s .spot) (s .view)
+
+-- ---- the form of the record that stands for the spot, by its tag of document 01's section Fields
+
+abbrev pub callTag : Seen → ℕ
+callTag nothing = 0x50
+callTag (argument a) = 0x59
+callTag (defined d w) = 0x5A
+callTag native = 0x5B
+
+abbrev pub operatorTag : Operator → ℕ
+operatorTag oComma = 0x5F
+operatorTag oAssign = 0x60
+operatorTag oUpdate = 0x61
+operatorTag (oUpdateMath k) = 0x62
+operatorTag oUpdateAlt = 0x63
+operatorTag oOr = 0x64
+operatorTag oAnd = 0x64
+operatorTag (oMath k) = 0x65
+operatorTag (oCmp k) = 0x66
+operatorTag oAlt = 0x67
+operatorTag oNone = 0x50
+
+abbrev pub leafTag : Leaf → ℕ
+leafTag identity = 0x50
+leafTag toString = 0x52
+leafTag (number i) = 0x53
+leafTag (text x) = 0x55
+leafTag emptyObj = 0x57
+
+-- "one or more decimal digits alone, at most 2^63-1, give Int; all else Num"
+unfoldable pub numberTag : Text → ℕ
+numberTag x = cond (leb 1 (length x) && areDigits x && leb (decimal 0 x) (2 ^ 63 - 1)) 0x53 0x54
+
+-- a walk stands at no Def, Str or Obj: it has gone on to what stands for it
+abbrev pub termTag : Tree → Term → View → ℕ
+termTag whole (tId p) v = 0x50
+termTag whole (tRecurse p) v = 0x51
+termTag whole (tArr p o) v = 0x56
+termTag whole (tNeg p t) v = 0x5D
+termTag whole (tLabel p x t) v = 0x5C
+termTag whole (tBreak p x) v = 0x59
+termTag whole (tIfThenElse p q t u bs) v = 0x69
+termTag whole (tVar p x) v = 0x59
+termTag whole (tCall p f ts) v = callTag (seen whole (f .text) (arity ts) v)
+termTag whole (tDef p ds t) v = 0x50
+termTag whole (tNum p x) v = numberTag x
+termTag whole (tTryCatch p t o) v = 0x68
+termTag whole (tFold p f t x ts) v = 0x6A
+termTag whole (tPipe p t q x u) v = 0x5E
+termTag whole (tBinOp p t q x u) v = operatorTag (operator x)
+termTag whole (tPath p t ps) v = 0x6B
+termTag whole (tStr p f ss) v = 0x50
+termTag whole (tObj p es) v = 0x50
+
+abbrev pub spotTag : Tree → Spot → View → ℕ
+spotTag whole (at t) v = termTag whole t v
+spotTag whole (leaf p a) v = leafTag a
+spotTag whole (call p x) v = callTag (seen whole x 0 v)
+spotTag whole (shown p f t) v = 0x5E
+spotTag whole (parts p f x ss) v = 0x65
+spotTag whole (single p t o) v = 0x58
+spotTag whole (entries p t o es) v = 0x65
+spotTag whole (reading p t) v = 0x6B
+
+abbrev pub tag : Tree → State → ℕ
+tag whole s = spotTag whole (s .spot) (s .view)
