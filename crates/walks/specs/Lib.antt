@@ -22,3 +22,4 @@ pub mod Weights
 pub mod Light
 pub mod Lightness
 pub mod Fitting
+pub mod Promises
