@@ -18,3 +18,8 @@ pub mod Whole
 pub mod Examples
 pub mod Reader
 pub mod ReadBack
+pub mod Weights
+pub mod Light
+pub mod Lightness
+pub mod Fitting
+pub mod Promises

@@ -1,0 +1,84 @@
+-- What a reader signs for: the third demand. "For any program accepted without errors: a reader that walks the tree by names and a reader that walks the table by
+-- indices and skip counts make the same moves as often as they like and always stand at matching places with matching binding lists, and every variable or break
+-- picks the same binding." The walks are defined in TreeWalk and TableWalk, what it is to stand together in Together, each under document 01's sentences.
+use Prim.Native.Nat.{ℕ, _≤_}
+use native.Mathlib.Omega.{arith}
+use mathlib.Core.Path.{_≡_, refl, sym, ap, subst, _∙_}
+use mathlib.Core.Bool.{Bool, true, false}
+use mathlib.Core.Option.{Option, none, some}
+use mathlib.Core.List.{List, []}
+use lib.ListN.{length}
+use Rattle.fields.specs.Outcome.{listing}
+use Rattle.tree.specs.Tree.{Tree}
+use Rattle.tree.specs.Form.{At, fTree}
+use Rattle.tree.specs.Encoded.{Bytes, bytesOf, encode, encoded}
+use Rattle.rules.specs.Modules.{compile}
+use Rattle.rules.specs.Count.{inserted}
+use Rattle.rules.specs.Listing.{termListing, compiling}
+use Rattle.rules.specs.Promises.{listed-terms}
+use Rattle.walks.specs.Moves.{Move}
+use Rattle.walks.specs.TreeWalk as ByName
+use Rattle.walks.specs.TableWalk as ByNumber
+use Rattle.walks.specs.Together.{nodesOf, allImported, allGlobals, PlaceAt, Alike, SamePick, Finds, Stand, Together, byName, byNumber}
+use Rattle.walks.specs.Whole.{walks-together}
+use Rattle.walks.specs.Reader.{Listed, readListing}
+use Rattle.walks.specs.ReadBack.{read-back}
+use Rattle.walks.specs.Weights.{weigh, weigh-bytes}
+use Rattle.walks.specs.Fitting.{fits}
+
+-- ---- the walks
+
+-- After any moves, as many as you like and through recursive calls, the two walks stand together: `Stand` says that the places match, that the record is of the
+-- field's form, that the lists match entry by entry, that what is picked matches, and that every name means something. A move is there for both or for neither
+pub together : (t : Tree) → compile t .errs ≡ [] → (ms : List Move) → Together t (compile t .table) (byName t ms) (byNumber t ms)
+together t q ms = walks-together t q ms
+
+-- "make the same moves": one walk can make them if the other can
+abbrev pub made : {A : Type 0} → Option A → Bool
+made none = false
+made (some a) = true
+
+pub same-moves : (t : Tree) → compile t .errs ≡ [] → (ms : List Move) → made (byName t ms) ≡ made (byNumber t ms)
+same-moves t q ms = go (byName t ms) (byNumber t ms) (together t q ms)
+  where
+    go : (s : Option ByName.State) (b : Option ByNumber.State) → Together t (compile t .table) s b → made s ≡ made b
+    go none none h = refl
+    go none (some b) h = absurd h
+    go (some s) none h = absurd h
+    go (some s) (some b) h = refl
+
+-- "always stand at matching places with matching binding lists, and every variable or break picks the same binding": a break or a variable picks an entry by its
+-- name in the tree, which matches the entry that its index has in the table; so does a call of an argument
+pub stand : (t : Tree) → compile t .errs ≡ [] → (ms : List Move) (s : ByName.State) (b : ByNumber.State) → byName t ms ≡ some s → byNumber t ms ≡ some b
+    → Stand t (compile t .table) s b
+stand t q ms s b x y =
+    subst (λ (o : Option ByNumber.State). Together t (compile t .table) (some s) o) y
+    (subst (λ (o : Option ByName.State). Together t (compile t .table) o (byNumber t ms)) x (together t q ms))
+
+-- ---- the bytes that leave the compiler
+
+-- the walk by numbers in a listing of terms: its records as they are read, its main number, the count of imported variables and of globals
+abbrev pub byListing : List ℕ → ℕ → ℕ → List Move → Option ByNumber.State
+byListing bytes i g ms = let o = readListing bytes in ByNumber.walk (o .nodes) ms (some (ByNumber.start (o .main) i g))
+
+-- what is listed is read back, for every tree of the length that is accepted
+pub listing-read : (t : Tree) → weigh (fTree t) ≤ 32768 → inserted t ≤ 4096
+    → readListing (termListing 2 (compile t .main) (compile t .table)) ≡ record { main = compile t .main; nodes = nodesOf (compile t .table) }
+listing-read t w i = let f = fits t w i in read-back (compile t .main) (compile t .table) (f .1) (f .0)
+
+-- the bytes of a tree are as many as its fields have
+tree-length : (b : List ℕ) (t : Tree) → Bytes b → At b t → weigh (fTree t) ≡ length b
+unfolding encode
+tree-length b t s h = weigh-bytes (fTree t) ∙ ap length (sym (encoded b s t h))
+
+-- For the bytes b of a tree that is neither refused (2, 6) nor has errors, the outcome is a listing, and the walk in its bytes and the walk in the tree stand
+-- together after any moves
+pub together-in-bytes : (b : List ℕ) (t : Tree) → Bytes b → At b t → length b ≤ 32768 → inserted t ≤ 4096 → compile t .errs ≡ [] → (ms : List Move)
+    → (bytes : List ℕ) × (compiling t ≡ listing 0 bytes) × Together t (compile t .table) (byName t ms) (byListing bytes (length (allImported t)) (length (allGlobals t)) ms)
+together-in-bytes b t s h l i q ms =
+    let w : weigh (fTree t) ≤ 32768 = omega (arith, tree-length b t s h) in
+    let walk : Listed → Option ByNumber.State = λ o. ByNumber.walk (o .nodes) ms (some (ByNumber.start (o .main) (length (allImported t)) (length (allGlobals t)))) in (
+      termListing 2 (compile t .main) (compile t .table),
+      listed-terms t i q,
+      subst (λ (o : Listed). Together t (compile t .table) (byName t ms) (walk o)) (sym (listing-read t w i)) (together t q ms),
+    )
