@@ -1,29 +1,27 @@
 -- The invariant of the two lists: the rows of the rules, the view by names and the list by numbers agree. From it: a name finds in the view what the rules found
 -- in the rows, and the index that they give has the entry in the list. Assumes nothing.
-use Prim.Native.Nat.{ℕ, zero, suc, _+_, _-_, _≤_, _<_}
-use native.Mathlib.Nat.{le-refl}
+use Prim.Native.Nat.{ℕ, suc, _+_, _-_, _≤_, _<_}
 use native.Mathlib.Omega.{arith}
 use mathlib.Core.Path.{_≡_, refl, ap, sym, _∙_, subst}
 use mathlib.Core.Bool.{Bool, true, false, cond, _&&_, false≢true}
-use mathlib.Core.Option.{Option, none, some, Option·map, Option·none-ne-some}
-use mathlib.Core.List.{List, [], _∷_, _++_}
+use mathlib.Core.Option.{Option, none, some, Option·map}
+use mathlib.Core.List.{List, [], _∷_}
 use lib.ListN.{length, getElem?, getD}
 use lib.Dec.{eqb}
 use borrow.Author.Tests.{eqb-true}
-use Rattle.tree.specs.Tree.{Name, Tree, Term, Def, def}
-use Rattle.rules.specs.Names.{Text, same, isVar}
+use Rattle.tree.specs.Tree.{Name, Tree, Term, def}
+use Rattle.rules.specs.Names.{Text, same}
 use Rattle.rules.specs.Tails.{Tail}
-use Rattle.rules.specs.Rows as Rows
 use Rattle.rules.specs.Rows.{Filter, Row, Env, count, findVar, findLabel, inside}
 use Rattle.rules.specs.Filters.{Imported, Top, orElse, lastThat, importedVar, globalVar, variable, Found, later, fits, find}
 use Rattle.rules.specs.Filters as Filters
 use Rattle.rules.specs.Rules.{term}
 use Rattle.rules.specs.Slices.{Table}
 use Rattle.walks.specs.TreeWalk as ByName
-use Rattle.walks.specs.TreeWalk.{View, Entry, Home, Seen, bodyPlace, pushEach, firstThat, isVariable, isLabel, isArgument, isDefinition, look}
+use Rattle.walks.specs.TreeWalk.{View, Entry, Home, Seen, bodyPlace, pushEach, firstThat, isVariable, isLabel, isArgument, look}
 use Rattle.walks.specs.TableWalk as ByNumber
 use Rattle.walks.specs.TableWalk.{Cells, Cell, pushCells, skip, cellAt}
-use Rattle.walks.specs.Together.{allImported, allGlobals, PlaceAt, SameEntry, sImported, sGlobal, sVar, sValue, sLabel, sArg}
+use Rattle.walks.specs.Together.{allImported, allGlobals, PlaceAt, SameEntry, sImported, sGlobal, sVar, sValue, sLabel}
 use Rattle.walks.specs.Holds.{Holds}
 
 -- ---- the lists

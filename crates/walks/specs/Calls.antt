@@ -1,23 +1,23 @@
 -- What a call means: by name in the view and in the modules of the tree, and by the rules. From the agreement of the lists, and of each module's definitions, the
 -- two mean the same. Assumes nothing.
-use Prim.Native.Nat.{ℕ, zero, suc, _+_, _-_, _≤_, _<_}
+use Prim.Native.Nat.{ℕ, suc, _-_, _≤_}
 use native.Mathlib.Omega.{arith}
 use mathlib.Core.Path.{_≡_, refl, ap, sym, _∙_, subst, subst₂}
 use mathlib.Core.Bool.{Bool, true, false, cond, _&&_}
 use mathlib.Core.Option.{Option, none, some}
-use mathlib.Core.List.{List, [], _∷_, _++_}
+use mathlib.Core.List.{List, [], _∷_}
 use lib.ListN.{length, getElem?, getD, List·getD-eq-default}
 use lib.Dec.{eqb, ltb}
 use borrow.Author.Tests.{ltb-true, ltb-false}
 use Rattle.fields.specs.Number as Bytes
-use Rattle.tree.specs.Tree.{Name, Number, Native, Uses, Module, Tree}
+use Rattle.tree.specs.Tree.{Number, Native, Uses, Module, Tree}
 use Rattle.rules.specs.Names.{Text, same, Parted, plain, parted, parting}
 use Rattle.rules.specs.Rows.{Filter, Row, Env, count}
 use Rattle.rules.specs.Filters as Filters
 use Rattle.rules.specs.Filters.{Top, orElse, Found, fits, find, definition, inModule, nativeOf, foundIn, foundElse, filterNamed, importNamed, importMeant, partMeant, meant}
 use Rattle.rules.specs.Slices.{Table}
 use Rattle.walks.specs.TreeWalk as ByName
-use Rattle.walks.specs.TreeWalk.{View, Home, Seen, seenElse, define, look, moduleAt, lookIn, ofModule, ofNatives, ofImport, seenParted, seen}
+use Rattle.walks.specs.TreeWalk.{View, Home, Seen, seenElse, define, look, lookIn, ofModule, ofNatives, ofImport, seenParted, seen}
 use Rattle.walks.specs.TableWalk.{Cells, skip}
 use Rattle.walks.specs.Agree.{Past, ending, Agree, agree-home, skip-all, Same, sNothing, sArgument, sLocal, sModule, sNative, same-cond, arity-of, agree-find}
 

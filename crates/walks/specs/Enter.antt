@@ -1,31 +1,30 @@
 -- Into a called definition and into a passed argument: both walks make the move, or neither. Assumes nothing.
-use Prim.Native.Nat.{ℕ, zero, suc, _+_, _-_, _≤_}
+use Prim.Native.Nat.{ℕ, suc, _+_, _-_, _≤_}
 use native.Mathlib.Omega.{arith}
 use mathlib.Core.Path.{_≡_, refl, ap, sym, _∙_, subst}
 use mathlib.Core.Bool.{Bool, true, false, cond}
-use mathlib.Core.Option.{Option, none, some}
-use mathlib.Core.List.{List, [], _∷_, _++_}
+use mathlib.Core.Option.{Option, some}
+use mathlib.Core.List.{List, [], _∷_}
 use lib.ListN.{length, getElem?}
-use Rattle.tree.specs.Tree.{Name, Tree, Term, Terms, tsNil, tsCons, Def, def}
+use Rattle.tree.specs.Tree.{Name, Tree, Term, Terms, tsNil, tsCons, def}
 use Rattle.rules.specs.Names.{isVar}
-use Rattle.rules.specs.Table.{Rec, Err}
+use Rattle.rules.specs.Table.{Err}
 use Rattle.rules.specs.Tails.{Tail, empty, parent}
-use Rattle.rules.specs.Rows as Rows
 use Rattle.rules.specs.Rows.{Filter, Row, Env, count, param, params, filterOf, inside}
 use Rattle.rules.specs.Filters.{Top, Found}
-use Rattle.rules.specs.Outs.{Out, slot, size, Made, binds, callOut, arity}
+use Rattle.rules.specs.Outs.{Out, size, Made, binds, callOut, arity}
 use Rattle.rules.specs.Rules.{term, args}
 use Rattle.rules.specs.Slices.{Table, Slice}
 use Rattle.walks.specs.TreeWalk as ByName
 use Rattle.walks.specs.TreeWalk.{View, Entry, Seen}
 use Rattle.walks.specs.TableWalk as ByNumber
 use Rattle.walks.specs.TableWalk.{Cells, Cell, skip, here}
-use Rattle.walks.specs.Together.{nodesOf, SamePick, SameEntry, sArg, Known}
+use Rattle.walks.specs.Together.{nodesOf, SamePick, sArg, Known}
 use Rattle.walks.specs.Holds.{has-error, node-at, Holds, Peeled, peel}
 use Rattle.walks.specs.Agree.{Agree, agValue, agArg, agFilter, Same, sNothing, sArgument, sLocal, sModule, sNative}
 use Rattle.walks.specs.Match.{Match, stands}
 use Rattle.walks.specs.Places.{holds-place, alike}
-use Rattle.walks.specs.Rows.{args-arity, Moved}
+use Rattle.walks.specs.Each.{args-arity, Moved}
 
 -- ---- how many parameters are pushed
 

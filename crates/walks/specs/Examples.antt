@@ -5,10 +5,10 @@ use mathlib.Core.Path.{_≡_, refl}
 use mathlib.Core.Option.{Option, none, some}
 use mathlib.Core.List.{List, [], _∷_}
 use Rattle.fields.specs.Number.{value}
-use Rattle.tree.specs.Tree.{Name, Term, noTerm, tsNil, tsCons, dsNil, dsCons, Def, def, pVar, pArr, aPattern, noPattern, psNil, psCons, sNil, sCons, sText, sTerm, esNil, esCons, noFormat, noGlobals, aGlobals, Uses, Module, Tree, tId, tNum, tLabel, tBreak, tVar, tCall, tDef, tPipe, tStr, tObj}
+use Rattle.tree.specs.Tree.{Name, Term, noTerm, tsNil, tsCons, dsNil, dsCons, def, pVar, pArr, aPattern, noPattern, psNil, psCons, sNil, sCons, sText, sTerm, esNil, esCons, noFormat, noGlobals, aGlobals, Uses, Module, Tree, tId, tNum, tLabel, tBreak, tVar, tCall, tDef, tPipe, tStr, tObj}
 use Rattle.rules.specs.Names.{ascii}
 use Rattle.rules.specs.Tails.{bit, has, without, subset, localCall, moduleKind}
-use Rattle.rules.specs.Filters.{Imported, variable, filterNamed, importMeant, partMeant, meant}
+use Rattle.rules.specs.Filters.{variable, filterNamed, importMeant, partMeant, meant}
 use Rattle.rules.specs.Outs.{varOut, numeral, callOut, sumOut, loneOut}
 use Rattle.rules.specs.Rules.{called, formatOut, term}
 use Rattle.rules.specs.Modules.{modules, compile}
@@ -16,7 +16,7 @@ use Rattle.walks.specs.Moves.{Role, Move}
 use Rattle.walks.specs.TreeWalk as ByName
 use Rattle.walks.specs.TreeWalk.{Entry}
 use Rattle.walks.specs.TableWalk as ByNumber
-use Rattle.walks.specs.TableWalk.{Cells, Cell, cellAt}
+use Rattle.walks.specs.TableWalk.{Cells, Cell}
 use Rattle.walks.specs.Together.{nodesOf, byName, byNumber}
 
 -- ---- what is shown of a walk: the place or number where it stands, and the entry that is picked there

@@ -7,7 +7,7 @@ pub mod Agree
 pub mod Calls
 pub mod Match
 pub mod Places
-pub mod Rows
+pub mod Each
 pub mod Members
 pub mod Folds
 pub mod Sums

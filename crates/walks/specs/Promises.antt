@@ -1,25 +1,28 @@
 -- What a reader signs for: the third demand. "For any program accepted without errors: a reader that walks the tree by names and a reader that walks the table by
 -- indices and skip counts make the same moves as often as they like and always stand at matching places with matching binding lists, and every variable or break
 -- picks the same binding." The walks are defined in TreeWalk and TableWalk, what it is to stand together in Together, each under document 01's sentences.
-use Prim.Native.Nat.{ℕ, _≤_}
+use Prim.Native.Nat.{ℕ, zero, suc, _≤_}
 use native.Mathlib.Omega.{arith}
 use mathlib.Core.Path.{_≡_, refl, sym, ap, subst, _∙_}
 use mathlib.Core.Bool.{Bool, true, false}
 use mathlib.Core.Option.{Option, none, some}
 use mathlib.Core.List.{List, []}
-use lib.ListN.{length}
+use lib.ListN.{length, getElem?}
 use Rattle.fields.specs.Outcome.{listing}
 use Rattle.tree.specs.Tree.{Tree}
 use Rattle.tree.specs.Form.{At, fTree}
-use Rattle.tree.specs.Encoded.{Bytes, bytesOf, encode, encoded}
+use Rattle.tree.specs.Encoded.{Bytes, encode, encoded}
 use Rattle.rules.specs.Modules.{compile}
 use Rattle.rules.specs.Count.{inserted}
 use Rattle.rules.specs.Listing.{termListing, compiling}
+use Rattle.rules.specs.Slices.{Table}
 use Rattle.rules.specs.Promises.{listed-terms}
 use Rattle.walks.specs.Moves.{Move}
 use Rattle.walks.specs.TreeWalk as ByName
+use Rattle.walks.specs.TreeWalk.{View}
 use Rattle.walks.specs.TableWalk as ByNumber
-use Rattle.walks.specs.Together.{nodesOf, allImported, allGlobals, PlaceAt, Alike, SamePick, Finds, Stand, Together, byName, byNumber}
+use Rattle.walks.specs.TableWalk.{Cells}
+use Rattle.walks.specs.Together.{nodesOf, allImported, allGlobals, Alike, alEnd, alEntry, alFilter, SamePick, Stand, Together, entriesOf, cellsOf, byName, byNumber}
 use Rattle.walks.specs.Whole.{walks-together}
 use Rattle.walks.specs.Reader.{Listed, readListing}
 use Rattle.walks.specs.ReadBack.{read-back}
@@ -54,6 +57,13 @@ pub stand : (t : Tree) → compile t .errs ≡ [] → (ms : List Move) (s : ByNa
 stand t q ms s b x y =
     subst (λ (o : Option ByNumber.State). Together t (compile t .table) (some s) o) y
     (subst (λ (o : Option ByName.State). Together t (compile t .table) o (byNumber t ms)) x (together t q ms))
+
+-- "matching binding lists": as many entries in both, and each matches the one of its index
+pub entry-by-entry : (t : Tree) (T : Table) {v : View} {l : Cells} → Alike t T v l → (i : ℕ) → SamePick t T (getElem? (entriesOf v) i) (getElem? (cellsOf l) i)
+entry-by-entry t T alEnd i = tt
+entry-by-entry t T (alEntry h g) zero = h
+entry-by-entry t T (alEntry h g) (suc i) = entry-by-entry t T g i
+entry-by-entry t T (alFilter g) i = entry-by-entry t T g i
 
 -- ---- the bytes that leave the compiler
 

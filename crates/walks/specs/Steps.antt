@@ -1,34 +1,33 @@
 -- From matching states every move leads both walks to matching states, or neither; and what a name picks matches. Assumes nothing.
-use Prim.Native.Nat.{ℕ, zero, suc, _+_, _-_, _^_}
-use mathlib.Core.Path.{_≡_, refl, ap, sym, _∙_, subst}
+use Prim.Native.Nat.{ℕ, suc, _+_, _-_, _^_}
+use mathlib.Core.Path.{_≡_, refl, sym, subst}
 use mathlib.Core.Bool.{Bool, true, false, cond, _&&_}
 use mathlib.Core.Option.{Option, none, some}
-use mathlib.Core.List.{List, [], _∷_, _++_}
+use mathlib.Core.List.{List, [], _∷_}
 use lib.ListN.{length, getElem?}
 use lib.Dec.{leb}
-use Rattle.tree.specs.Tree.{Name, Tree, Term, OptTerm, noTerm, aTerm, Terms, tsNil, tsCons, Pattern, StrParts, sNil, sCons, StrPart, Entries, esNil, esCons, Format, Operator, oComma, oAlt, oOr, oAnd, oAssign, oUpdate, oUpdateAlt, oMath, oUpdateMath, oCmp, oNone, operator, textPlace, tId, tRecurse, tArr, tNeg, tLabel, tBreak, tIfThenElse, tVar, tCall, tDef, tNum, tTryCatch, tFold, tPipe, tBinOp, tPath, tStr, tObj}
+use Rattle.tree.specs.Tree.{Name, Tree, Term, OptTerm, noTerm, aTerm, Terms, tsNil, StrParts, sNil, sCons, StrPart, Entries, esNil, esCons, Format, Operator, oComma, oAlt, oOr, oAnd, oAssign, oUpdate, oUpdateAlt, oMath, oUpdateMath, oCmp, oNone, operator, textPlace, tId, tRecurse, tArr, tNeg, tLabel, tBreak, tIfThenElse, tVar, tCall, tDef, tNum, tTryCatch, tFold, tPipe, tBinOp, tPath, tStr, tObj}
 use Rattle.rules.specs.Names.{Text, ascii, same}
-use Rattle.rules.specs.Table.{Rec, Err, Node, nInt, nNum, nFold, Pat, Folding, reduce, foreach, uVar, uLabel}
+use Rattle.rules.specs.Table.{Rec, Err, nInt, nNum, nFold, Pat, Folding, reduce, foreach, uVar, uLabel}
 use Rattle.rules.specs.Tails.{Tail, empty}
-use Rattle.rules.specs.Rows.{Filter, Env, count, findLabel}
+use Rattle.rules.specs.Rows.{Filter, Env, findLabel}
 use Rattle.rules.specs.Filters as Filters
 use Rattle.rules.specs.Filters.{Top, variable, meant, errorAt}
-use Rattle.rules.specs.Outs.{Out, slot, size, node, fail, Made, bare, varOut, binary, iteOut, sumOut, loneOut, numeral, areDigits, decimal, varName, vars, arity}
-use Rattle.rules.specs.Rules as Rules
-use Rattle.rules.specs.Rules.{Waiting, called, foldError, foldEnd, foldOut, term, args, waiting, pattern, strings, string, entry}
+use Rattle.rules.specs.Outs.{Out, size, node, Made, bare, varOut, binary, iteOut, sumOut, loneOut, numeral, areDigits, decimal, varName, vars, arity}
+use Rattle.rules.specs.Rules.{Waiting, called, foldError, foldEnd, foldOut, term, args, waiting, pattern, string, entry}
 use Rattle.rules.specs.Slices.{Table}
 use Rattle.walks.specs.Moves.{Move}
 use Rattle.walks.specs.TreeWalk as ByName
-use Rattle.walks.specs.TreeWalk.{View, Entry, Spot, Leaf, Home, Seen, seen, firstThat, isVariable, isLabel}
+use Rattle.walks.specs.TreeWalk.{View, Entry, Spot, Leaf, seen, firstThat, isVariable, isLabel}
 use Rattle.walks.specs.TableWalk as ByNumber
 use Rattle.walks.specs.TableWalk.{Cells, Cell, here, cellAt}
 use Rattle.walks.specs.Together.{nodesOf, SamePick, Present, Finds, Stand, Together}
 use Rattle.walks.specs.Holds.{has-error, node-at, Holds}
-use Rattle.walks.specs.Agree.{Agree, Past, Points, PointsAt, agree-home, agree-var, agree-label}
+use Rattle.walks.specs.Agree.{Agree, Points, PointsAt, agree-home, agree-var, agree-label}
 use Rattle.walks.specs.Calls.{AllStocked, agree-meant}
-use Rattle.walks.specs.Match.{Plain, Held, HeldTerm, HeldCall, HeldParts, HeldSingle, HeldEntries, leafNode, entryOut, Match}
+use Rattle.walks.specs.Match.{Plain, Held, leafNode, entryOut, Match}
 use Rattle.walks.specs.Places.{match-place, alike}
-use Rattle.walks.specs.Rows.{Moved, each-pick}
+use Rattle.walks.specs.Each.{Moved, each-pick}
 use Rattle.walks.specs.Forms.{match-members}
 use Rattle.walks.specs.Enter.{Acts, call-acts}
 

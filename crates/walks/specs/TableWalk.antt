@@ -2,11 +2,11 @@
 -- skip counts, argument lists and patterns. It knows no name, no place and no tree. Each sentence of document 01's section "The two walks" stands above what it
 -- says. Assumes nothing.
 use Prim.Native.Nat.{ℕ, zero, suc, _+_}
-use mathlib.Core.Bool.{Bool, true, false, cond}
+use mathlib.Core.Bool.{cond}
 use mathlib.Core.Option.{Option, none, some}
 use mathlib.Core.List.{List, [], _∷_, _++_}
-use lib.ListN.{length, getElem?}
-use Rattle.rules.specs.Table.{Arg, Pat, patVar, patIdx, Pats, patsNil, patsCons, Folding, reduce, foreach, Step, index, range, Rec, Node, nId, nRecurse, nToString, nInt, nNum, nStr, nArr, nObjEmpty, nObjSingle, nVar, nCallDef, nNative, nLabel, nNeg, nPipe, nComma, nAssign, nUpdate, nUpdateMath, nUpdateAlt, nLogic, nMath, nCmp, nAlt, nTryCatch, nIte, nFold, nPath}
+use lib.ListN.{getElem?}
+use Rattle.rules.specs.Table.{Arg, Pat, patVar, patIdx, Pats, patsNil, patsCons, Folding, reduce, foreach, Step, index, range, Node, nId, nRecurse, nToString, nInt, nNum, nStr, nArr, nObjEmpty, nObjSingle, nVar, nCallDef, nNative, nLabel, nNeg, nPipe, nComma, nAssign, nUpdate, nUpdateMath, nUpdateAlt, nLogic, nMath, nCmp, nAlt, nTryCatch, nIte, nFold, nPath}
 use Rattle.walks.specs.Moves.{Role, Move, Member, lone, ranked, pick}
 
 -- ---- the list

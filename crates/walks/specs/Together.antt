@@ -5,7 +5,7 @@ use mathlib.Core.Path.{_≡_}
 use mathlib.Core.Option.{Option, none, some, Option·map}
 use mathlib.Core.List.{List, [], _∷_}
 use lib.ListN.{length, getElem?}
-use Rattle.tree.specs.Tree.{Name, Tree, Term, Def, Terms, tId, tRecurse, tArr, tNeg, tLabel, tBreak, tIfThenElse, tVar, tCall, tDef, tNum, tTryCatch, tFold, tPipe, tBinOp, tPath, tStr, tObj}
+use Rattle.tree.specs.Tree.{Name, Tree, Term, Def, tId, tRecurse, tArr, tNeg, tLabel, tBreak, tIfThenElse, tVar, tCall, tDef, tNum, tTryCatch, tFold, tPipe, tBinOp, tPath, tStr, tObj}
 use Rattle.rules.specs.Table.{Rec, Node}
 use Rattle.rules.specs.Filters.{Imported}
 use Rattle.rules.specs.Slices.{Table}
@@ -114,6 +114,16 @@ module _ (whole : Tree) (T : Table) where
   Together none (some b) = ⊥
   Together (some s) none = ⊥
   Together (some s) (some b) = Stand s b
+
+-- the entries of a list, the last pushed first
+abbrev pub entriesOf : View → List Entry
+entriesOf (View.end h) = []
+entriesOf (View.entry a v) = a ∷ entriesOf v
+entriesOf (View.filter d w v) = entriesOf v
+
+abbrev pub cellsOf : Cells → List Cell
+cellsOf Cells.end = []
+cellsOf (Cells.cell a l) = a ∷ cellsOf l
 
 -- the walks of a program from main, in its tree and in its table
 abbrev pub byName : Tree → List Move → Option ByName.State

@@ -2,12 +2,11 @@
 use Prim.Native.Nat.{ℕ, zero, suc, _+_, _≤_, _<_}
 use native.Mathlib.Omega.{arith}
 use mathlib.Core.Path.{_≡_, refl, ap, sym, _∙_, subst}
-use mathlib.Core.Option.{Option, none, some, Option·none-ne-some, Option·some-injective}
+use mathlib.Core.Option.{none, some, Option·none-ne-some, Option·some-injective}
 use mathlib.Core.List.{List, [], _∷_, _++_}
 use lib.ListN.{length, length-append, getElem?, getD, List·getD-eq-default, List·getD-append}
 use lib.Seq.{getD-append-seam}
-use Rattle.tree.specs.Tree.{Name, Uses, Module, Tree, Defs, dsNil, dsCons, Def, def}
-use Rattle.rules.specs.Table.{Rec, Err}
+use Rattle.tree.specs.Tree.{Uses, Module, Tree, Defs, dsNil, dsCons, def}
 use Rattle.rules.specs.Tails.{Tail, empty, sibling}
 use Rattle.rules.specs.Rows.{Filter, Row, Env, filterOf, filters}
 use Rattle.rules.specs.Filters.{Top}
@@ -17,10 +16,9 @@ use Rattle.rules.specs.Modules.{topOf, modules, compile}
 use Rattle.rules.specs.Slices.{Table, Slice, slice-left, slice-right, slice-self}
 use Rattle.walks.specs.Moves.{Move}
 use Rattle.walks.specs.TreeWalk as ByName
-use Rattle.walks.specs.TreeWalk.{View, Home, define}
-use Rattle.walks.specs.TableWalk as ByNumber
-use Rattle.walks.specs.TableWalk.{Cells, here}
-use Rattle.walks.specs.Together.{allImported, allGlobals, Together, byName, byNumber}
+use Rattle.walks.specs.TreeWalk.{Home, define}
+use Rattle.walks.specs.TableWalk.{here}
+use Rattle.walks.specs.Together.{Together, byName, byNumber}
 use Rattle.walks.specs.Holds.{nil-left, nil-right, Holds}
 use Rattle.walks.specs.Agree.{Past, ending, Agree, agEnd}
 use Rattle.walks.specs.Calls.{rowsOf, Stocked, AllStocked}
