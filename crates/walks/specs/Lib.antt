@@ -15,11 +15,11 @@ pub mod Forms
 pub mod Enter
 pub mod Steps
 pub mod Whole
-pub mod Examples
 pub mod Reader
 pub mod ReadBack
 pub mod Weights
 pub mod Light
 pub mod Lightness
 pub mod Fitting
+pub mod Examples
 pub mod Promises
