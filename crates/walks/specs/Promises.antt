@@ -9,9 +9,13 @@ use mathlib.Core.Option.{Option, none, some}
 use mathlib.Core.List.{List, []}
 use lib.ListN.{length, getElem?}
 use Rattle.fields.specs.Outcome.{listing}
-use Rattle.tree.specs.Tree.{Tree}
+use Rattle.tree.specs.Tree.{Term, Tree}
 use Rattle.tree.specs.Form.{At, fTree}
 use Rattle.tree.specs.Encoded.{Bytes, encode, encoded}
+use Rattle.rules.specs.Tails.{Tail}
+use Rattle.rules.specs.Rows.{Env}
+use Rattle.rules.specs.Filters.{Top}
+use Rattle.rules.specs.Rules.{term}
 use Rattle.rules.specs.Modules.{compile}
 use Rattle.rules.specs.Count.{inserted}
 use Rattle.rules.specs.Listing.{termListing, compiling}
@@ -19,11 +23,13 @@ use Rattle.rules.specs.Slices.{Table}
 use Rattle.rules.specs.Promises.{listed-terms}
 use Rattle.walks.specs.Moves.{Move}
 use Rattle.walks.specs.TreeWalk as ByName
-use Rattle.walks.specs.TreeWalk.{View}
+use Rattle.walks.specs.TreeWalk.{View, Spot}
 use Rattle.walks.specs.TableWalk as ByNumber
 use Rattle.walks.specs.TableWalk.{Cells}
 use Rattle.walks.specs.Together.{nodesOf, allImported, allGlobals, Alike, alEnd, alEntry, alFilter, SamePick, Stand, Together, entriesOf, cellsOf, byName, byNumber}
-use Rattle.walks.specs.Whole.{walks-together}
+use Rattle.walks.specs.Match.{Match}
+use Rattle.walks.specs.Each.{Moved}
+use Rattle.walks.specs.Whole.{definitions, walks-match, walks-together}
 use Rattle.walks.specs.Reader.{Listed, readListing}
 use Rattle.walks.specs.ReadBack.{read-back}
 use Rattle.walks.specs.Weights.{weigh, weigh-bytes}
@@ -57,6 +63,18 @@ pub stand : (t : Tree) → compile t .errs ≡ [] → (ms : List Move) (s : ByNa
 stand t q ms s b x y =
     subst (λ (o : Option ByNumber.State). Together t (compile t .table) (some s) o) y
     (subst (λ (o : Option ByName.State). Together t (compile t .table) o (byNumber t ms)) x (together t q ms))
+
+-- "A term field matches the number that the rules give it.": where the walk by names stands at a term field, the record of the other walk's number is the one that
+-- the rules insert for this term, in view of some rows
+pub given : (t : Tree) → compile t .errs ≡ [] → (ms : List Move) (u : Term) (v : View) (b : ByNumber.State) → byName t ms ≡ some (ByName.here (Spot.at u) v)
+    → byNumber t ms ≡ some b → (c : Top) × (e : Env) × (n : ℕ) × (r : Tail) × (getElem? (compile t .table) (b .at) ≡ some (term c u e n r .self))
+given t q ms u v b x y =
+    let T : Table = compile t .table in
+    let s : ByName.State = ByName.here (Spot.at u) v in
+    let h : Match t T (definitions t) s b =
+    subst (λ (o : Option ByNumber.State). Moved t T (definitions t) (some s) o) y
+    (subst (λ (o : Option ByName.State). Moved t T (definitions t) o (byNumber t ms)) x (walks-match t q ms)) in
+    (h .top, h .env, h .held .next, h .held .allowed, h .held .holds .self)
 
 -- "matching binding lists": as many entries in both, and each matches the one of its index
 pub entry-by-entry : (t : Tree) (T : Table) {v : View} {l : Cells} → Alike t T v l → (i : ℕ) → SamePick t T (getElem? (entriesOf v) i) (getElem? (cellsOf l) i)

@@ -276,13 +276,17 @@ module _ (whole : Tree) (T : Table) (D : List (List Filter)) where
     match-step Move.called s b h = match-does s b h .called
     match-step Move.passed s b h = match-does s b h .passed
 
-    pub match-walk : (ms : List Move) (s : Option ByName.State) (b : Option ByNumber.State) → Moved whole T D s b
-        → Together whole T (ByName.walk whole ms s) (ByNumber.walk (nodesOf T) ms b)
-    match-walk [] none none h = tt
-    match-walk [] none (some b) h = h
-    match-walk [] (some s) none h = h
-    match-walk [] (some s) (some b) h = match-stand s b h
-    match-walk (m ∷ ms) none none h = tt
-    match-walk (m ∷ ms) none (some b) h = absurd h
-    match-walk (m ∷ ms) (some s) none h = absurd h
-    match-walk (m ∷ ms) (some s) (some b) h = match-walk ms (ByName.step whole m s) (ByNumber.step (nodesOf T) m b) (match-step m s b h)
+    -- matching states after any moves
+    pub match-moves : (ms : List Move) (s : Option ByName.State) (b : Option ByNumber.State) → Moved whole T D s b
+        → Moved whole T D (ByName.walk whole ms s) (ByNumber.walk (nodesOf T) ms b)
+    match-moves [] s b h = h
+    match-moves (m ∷ ms) none none h = tt
+    match-moves (m ∷ ms) none (some b) h = absurd h
+    match-moves (m ∷ ms) (some s) none h = absurd h
+    match-moves (m ∷ ms) (some s) (some b) h = match-moves ms (ByName.step whole m s) (ByNumber.step (nodesOf T) m b) (match-step m s b h)
+
+    pub moved-together : (s : Option ByName.State) (b : Option ByNumber.State) → Moved whole T D s b → Together whole T s b
+    moved-together none none h = tt
+    moved-together none (some b) h = h
+    moved-together (some s) none h = h
+    moved-together (some s) (some b) h = match-stand s b h
