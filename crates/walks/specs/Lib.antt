@@ -21,5 +21,6 @@ pub mod Weights
 pub mod Light
 pub mod Lightness
 pub mod Fitting
+pub mod Accepted
 pub mod Examples
 pub mod Promises

@@ -18,7 +18,7 @@ use Rattle.walks.specs.TreeWalk as ByName
 use Rattle.walks.specs.TreeWalk.{View, Leaf, Seen, arguments, operands}
 use Rattle.walks.specs.TableWalk as ByNumber
 use Rattle.walks.specs.TableWalk.{Cells, here, atEach}
-use Rattle.walks.specs.Together.{nodesOf}
+use Rattle.walks.specs.Together.{nodesOf, entriesOf}
 use Rattle.walks.specs.Holds.{has-error, node-at, Holds}
 use Rattle.walks.specs.Agree.{Agree, Same, sNothing, sArgument, sLocal, sModule, sNative}
 use Rattle.walks.specs.Match.{leafNode, Match}
@@ -56,11 +56,11 @@ module _ (whole : Tree) (T : Table) (D : List (List Filter)) where
       let ns : List ℕ = args c ts e m .made in
       rw (numbers-bound ps ns (args-arity c ts e m ∙ z)) (each-ranked whole T D Role.argument 0 (arguments ts v) (atEach ns l) (both-args whole T D ts m c e v l s f g))
 
-  pub call-members : (ts : Terms) (n m p : ℕ) (x : Err) (r : Tail) (c : Top) (e : Env) (v : View) (l : Cells) {F : Found} {S : Seen} → Same whole T D (arity ts) (count e) l F S
+  pub call-members : (ts : Terms) (n m p : ℕ) (x : Err) (r : Tail) (c : Top) (e : Env) (v : View) (l : Cells) {F : Found} {S : Seen} → Same whole T D (entriesOf v) (arity ts) (count e) l F S
       → Holds T n m (callOut p (count e) r (args c ts e m) x F) → Agree whole T D c e v l → Has (ranked Role.argument 0 (arguments ts v)) n l
   unfolding callOut
   call-members ts n m p x r c e v l sNothing h g = absurd (has-error (args c ts e m .errs) x (h .fine))
-  call-members ts n m p x r c e v l (sArgument r′ z q h′ g′) h g = rw (node-at T n _ (h .self)) (no-arguments ts v z)
+  call-members ts n m p x r c e v l (sArgument r′ z y q h′ g′) h g = rw (node-at T n _ (h .self)) (no-arguments ts v z)
   call-members ts n m p x r c e v l (sLocal d r′ z b h′ g′) h g = rw (node-at T n _ (h .self)) (arguments-each ts (d .params) m c e v l z (h .more) (h .fine) g)
   call-members ts n m p x r c e v l (sModule d r′ z h′ g′) h g = rw (node-at T n _ (h .self)) (arguments-each ts (d .params) m c e v l z (h .more) (h .fine) g)
   call-members ts n m p x r c e v l (sNative {ps = ps} z) h g = rw (node-at T n _ (h .self)) (arguments-each ts ps m c e v l z (h .more) (h .fine) g)
