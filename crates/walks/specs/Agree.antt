@@ -1,29 +1,27 @@
 -- The invariant of the two lists: the rows of the rules, the view by names and the list by numbers agree. From it: a name finds in the view what the rules found
 -- in the rows, and the index that they give has the entry in the list. Assumes nothing.
-use Prim.Native.Nat.{ℕ, zero, suc, _+_, _-_, _≤_, _<_}
-use native.Mathlib.Nat.{le-refl}
+use Prim.Native.Nat.{ℕ, suc, _+_, _-_, _≤_, _<_}
 use native.Mathlib.Omega.{arith}
 use mathlib.Core.Path.{_≡_, refl, ap, sym, _∙_, subst}
 use mathlib.Core.Bool.{Bool, true, false, cond, _&&_, false≢true}
-use mathlib.Core.Option.{Option, none, some, Option·map, Option·none-ne-some}
-use mathlib.Core.List.{List, [], _∷_, _++_}
+use mathlib.Core.Option.{Option, none, some, Option·map}
+use mathlib.Core.List.{List, [], _∷_}
 use lib.ListN.{length, getElem?, getD}
 use lib.Dec.{eqb}
 use borrow.Author.Tests.{eqb-true}
-use Rattle.tree.specs.Tree.{Name, Tree, Term, Def, def}
-use Rattle.rules.specs.Names.{Text, same, isVar}
+use Rattle.tree.specs.Tree.{Name, Tree, Term, def}
+use Rattle.rules.specs.Names.{Text, same}
 use Rattle.rules.specs.Tails.{Tail}
-use Rattle.rules.specs.Rows as Rows
 use Rattle.rules.specs.Rows.{Filter, Row, Env, count, findVar, findLabel, inside}
 use Rattle.rules.specs.Filters.{Imported, Top, orElse, lastThat, importedVar, globalVar, variable, Found, later, fits, find}
 use Rattle.rules.specs.Filters as Filters
 use Rattle.rules.specs.Rules.{term}
 use Rattle.rules.specs.Slices.{Table}
 use Rattle.walks.specs.TreeWalk as ByName
-use Rattle.walks.specs.TreeWalk.{View, Entry, Home, Seen, bodyPlace, pushEach, firstThat, isVariable, isLabel, isArgument, isDefinition, look}
+use Rattle.walks.specs.TreeWalk.{View, Entry, Home, Seen, bodyPlace, pushEach, firstThat, isVariable, isLabel, isArgument, look}
 use Rattle.walks.specs.TableWalk as ByNumber
 use Rattle.walks.specs.TableWalk.{Cells, Cell, pushCells, skip, cellAt}
-use Rattle.walks.specs.Together.{allImported, allGlobals, PlaceAt, SameEntry, sImported, sGlobal, sVar, sValue, sLabel, sArg}
+use Rattle.walks.specs.Together.{allImported, allGlobals, entriesOf, PlaceAt, SameEntry, sImported, sGlobal, sVar, sValue, sLabel}
 use Rattle.walks.specs.Holds.{Holds}
 
 -- ---- the lists
@@ -94,33 +92,37 @@ look-outer whole h f a =
 
 -- an index in the list has an entry that matches the one found by name, and no argument
 module _ (whole : Tree) (T : Table) where
-  pub record PointsAt (l : Cells) (i : ℕ) (a : Entry) : Type 0 where
+  pub record PointsAt (es : List Entry) (l : Cells) (i : ℕ) (a : Entry) : Type 0 where
+    pub counted : getElem? es i ≡ some a
     pub it : Cell
     pub there : cellAt i l ≡ some it
     pub matches : SameEntry whole T a it
     pub bare : ByNumber.through (some it) ≡ none
 
-  abbrev pub Points : Cells → Option ℕ → Option Entry → Type 0
-  Points l none none = Unit {0}
-  Points l none (some a) = ⊥
-  Points l (some i) none = ⊥
-  Points l (some i) (some a) = PointsAt l i a
+  abbrev pub Points : List Entry → Cells → Option ℕ → Option Entry → Type 0
+  Points es l none none = Unit {0}
+  Points es l none (some a) = ⊥
+  Points es l (some i) none = ⊥
+  Points es l (some i) (some a) = PointsAt es l i a
 
-  points-later : (b : Cell) (l : Cells) (o : Option ℕ) (a : Option Entry) → Points l o a → Points (Cells.cell b l) (Option·map suc o) a
-  points-later b l none none h = tt
-  points-later b l none (some a) h = h
-  points-later b l (some i) none h = h
-  points-later b l (some i) (some a) h = record { it = h .it; there = h .there; matches = h .matches; bare = h .bare }
+  points-later : (x : Entry) (es : List Entry) (b : Cell) (l : Cells) (o : Option ℕ) (a : Option Entry) → Points es l o a
+      → Points (x ∷ es) (Cells.cell b l) (Option·map suc o) a
+  points-later x es b l none none h = tt
+  points-later x es b l none (some a) h = h
+  points-later x es b l (some i) none h = h
+  points-later x es b l (some i) (some a) h = record { counted = h .counted; it = h .it; there = h .there; matches = h .matches; bare = h .bare }
 
-  points-cond : (b : Bool) (l : Cells) (o o′ : Option ℕ) (a a′ : Option Entry) → Points l o a → Points l o′ a′ → Points l (cond b o o′) (cond b a a′)
-  points-cond true l o o′ a a′ h k = h
-  points-cond false l o o′ a a′ h k = k
+  points-cond : (b : Bool) (es : List Entry) (l : Cells) (o o′ : Option ℕ) (a a′ : Option Entry) → Points es l o a → Points es l o′ a′
+      → Points es l (cond b o o′) (cond b a a′)
+  points-cond true es l o o′ a a′ h k = h
+  points-cond false es l o o′ a a′ h k = k
 
   -- an entry that fits is the first
-  points-here : (b : Bool) (a : Entry) (it : Cell) (l : Cells) (o : Option ℕ) (x : Option Entry) → SameEntry whole T a it → ByNumber.through (some it) ≡ none
-      → Points l o x → Points (Cells.cell it l) (cond b (some 0) (Option·map suc o)) (cond b (some a) x)
-  points-here b a it l o x s t h =
-      points-cond b (Cells.cell it l) (some 0) (Option·map suc o) (some a) x (record { it = it; there = refl; matches = s; bare = t }) (points-later it l o x h)
+  points-here : (b : Bool) (a : Entry) (it : Cell) (es : List Entry) (l : Cells) (o : Option ℕ) (x : Option Entry) → SameEntry whole T a it
+      → ByNumber.through (some it) ≡ none → Points es l o x → Points (a ∷ es) (Cells.cell it l) (cond b (some 0) (Option·map suc o)) (cond b (some a) x)
+  points-here b a it es l o x s t h =
+      points-cond b (a ∷ es) (Cells.cell it l) (some 0) (Option·map suc o) (some a) x (record { counted = refl; it = it; there = refl; matches = s; bare = t })
+      (points-later a es it l o x h)
 
   -- ---- past the locals
 
@@ -134,19 +136,20 @@ module _ (whole : Tree) (T : Table) where
 
   points-push : {A : Type 0} (make : A → Entry) (kind : ℕ → Cell) (F : Entry → Bool) (xs : List A) (i : ℕ) (v : View) (l : Cells) (o : Option ℕ)
       → ((j : ℕ) (x : A) → getElem? xs j ≡ some x → SameEntry whole T (make x) (kind (i + j))) → ((j : ℕ) → ByNumber.through (some (kind j)) ≡ none)
-      → Points l o (firstThat F v)
-      → Points (pushCells kind i (length xs) l) (orElse (lastThat (λ x. F (make x)) xs) (Option·map (λ k. length xs + k) o)) (firstThat F (pushEach make xs v))
+      → Points (entriesOf v) l o (firstThat F v)
+      → Points (entriesOf (pushEach make xs v)) (pushCells kind i (length xs) l) (orElse (lastThat (λ x. F (make x)) xs) (Option·map (λ k. length xs + k) o)) (firstThat F (pushEach make xs v))
   points-push make kind F [] i v l none s t h = h
   points-push make kind F [] i v l (some k) s t h =
-      let q : k ≡ 0 + k = omega arith in subst (λ (j : ℕ). Points l (some j) (firstThat F v)) q h
+      let q : k ≡ 0 + k = omega arith in subst (λ (j : ℕ). Points (entriesOf v) l (some j) (firstThat F v)) q h
   points-push make kind F (x ∷ xs) i v l o s t h =
       let z : i + 0 ≡ i = omega arith in
       let s₀ : SameEntry whole T (make x) (kind i) = subst (λ (j : ℕ). SameEntry whole T (make x) (kind j)) z (s 0 x refl) in
       let o′ : Option ℕ = cond (F (make x)) (some 0) (Option·map suc o) in
-      let h′ : Points (Cells.cell (kind i) l) o′ (firstThat F (View.entry (make x) v)) = points-here (F (make x)) (make x) (kind i) l o (firstThat F v) s₀ (t i) h in
+      let h′ : Points (make x ∷ entriesOf v) (Cells.cell (kind i) l) o′ (firstThat F (View.entry (make x) v)) =
+      points-here (F (make x)) (make x) (kind i) (entriesOf v) l o (firstThat F v) s₀ (t i) h in
       let more : (j : ℕ) (y : _) → getElem? xs j ≡ some y → SameEntry whole T (make y) (kind (suc i + j)) =
       λ j y q. let w : i + suc j ≡ suc i + j = omega arith in subst (λ (k : ℕ). SameEntry whole T (make y) (kind k)) w (s (suc j) y q) in
-      subst (λ (w : Option ℕ). Points (pushCells kind (suc i) (length xs) (Cells.cell (kind i) l)) w (firstThat F (pushEach make xs (View.entry (make x) v))))
+      subst (λ (w : Option ℕ). Points (entriesOf (pushEach make xs (View.entry (make x) v))) (pushCells kind (suc i) (length xs) (Cells.cell (kind i) l)) w (firstThat F (pushEach make xs (View.entry (make x) v))))
       (past-index (length xs) (F (make x)) (lastThat (λ x. F (make x)) xs) o)
       (points-push make kind F xs (suc i) (View.entry (make x) v) (Cells.cell (kind i) l) o′ more t h′)
 
@@ -159,6 +162,7 @@ module _ (whole : Tree) (T : Table) where
   -- "all modules' imported variables, last first, matching only the current module's; else globals, last first"
   points-outer : (n : ℕ) (h : Home) (x : Text)
       → Points
+      (entriesOf (ByName.outer whole h))
       (ByNumber.outer (length (allImported whole)) (length (allGlobals whole)))
       (orElse (Option·map (λ i. 0 + i) (lastThat (λ v. eqb (v .home) n && same x (v .name .text)) (allImported whole)))
       (Option·map (λ i. 0 + (length (allImported whole) + i)) (lastThat (λ v. same x (v .text)) (allGlobals whole))))
@@ -171,10 +175,10 @@ module _ (whole : Tree) (T : Table) where
       let g : Option ℕ = lastThat (λ v. same x (v .text)) G in
       let v : View = pushEach Entry.global G (View.end h) in
       let l : Cells = pushCells Cell.global 0 (length G) Cells.end in
-      let globals : Points l (orElse g none) (firstThat F v) =
+      let globals : Points (entriesOf v) l (orElse g none) (firstThat F v) =
       points-push Entry.global Cell.global F G 0 (View.end h) Cells.end none
       (λ j y q. sGlobal (let z : 0 + j ≡ j = omega arith in subst (λ (k : ℕ). getElem? G k ≡ some y) (sym z) q)) (λ j. refl) tt in
-      subst (λ (w : Option ℕ). Points (pushCells Cell.imported 0 (length I) l) w (firstThat F (pushEach Entry.imported I v)))
+      subst (λ (w : Option ℕ). Points (entriesOf (pushEach Entry.imported I v)) (pushCells Cell.imported 0 (length I) l) w (firstThat F (pushEach Entry.imported I v)))
       (outer-index (length I) i g)
       (points-push Entry.imported Cell.imported F I 0 v l (orElse g none)
       (λ j y q. sImported (let z : 0 + j ≡ j = omega arith in subst (λ (k : ℕ). getElem? I k ≡ some y) (sym z) q)) (λ j. refl) globals)
@@ -237,76 +241,86 @@ module _ (whole : Tree) (T : Table) (D : List (List Filter)) where
   skip-all (agArg r h g′ g) = skip-all g
   skip-all (agFilter d r b h g′ g) = skip-all g
 
-  var-end : (x : Text) (c : Top) (h : Home) → Past whole T D c h
-      → Points whole T (ending whole T D) (variable c x []) (firstThat (isVariable (Filters.homeOf c) x) (ByName.outer whole h))
+  -- by name in the view, by the index o in the list
+  abbrev Found-at : Top → Text → View → Cells → Option ℕ → Type 0
+  Found-at c x v l o = Points whole T (entriesOf v) l o (firstThat (isVariable (Filters.homeOf c) x) v)
+
+  var-end : (x : Text) (c : Top) (h : Home) → Past whole T D c h → Found-at c x (ByName.outer whole h) (ending whole T D) (variable c x [])
   unfolding variable
   var-end x c h past = rw (past .imported, past .globals) (points-outer whole T (Filters.homeOf c) h x)
 
+  -- a variable of this name, or another
+  var-here : (c : Top) (x : Text) (y : Name) (a : Entry) (b : Cell) (e : Env) (v : View) (l : Cells) → SameEntry whole T a b → ByNumber.through (some b) ≡ none
+      → Found-at c x v l (variable c x e)
+      → Points whole T (a ∷ entriesOf v) (Cells.cell b l) (variable c x (Row.var y ∷ e)) (cond (same x (y .text)) (some a) (firstThat (isVariable (Filters.homeOf c) x) v))
+  var-here c x y a b e v l s t h =
+      let found : Option Entry = firstThat (isVariable (Filters.homeOf c) x) v in
+      subst (λ (o : Option ℕ). Points whole T (a ∷ entriesOf v) (Cells.cell b l) o (cond (same x (y .text)) (some a) found)) (sym (variable-here whole T c x y e))
+      (points-here whole T (same x (y .text)) a b (entriesOf v) l (variable c x e) found s t h)
+
   -- a variable that is found by name is the one that its index has
-  pub agree-var : {c : Top} {e : Env} {v : View} {l : Cells} (x : Text) → Agree whole T D c e v l
-      → Points whole T l (variable c x e) (firstThat (isVariable (Filters.homeOf c) x) v)
+  pub agree-var : {c : Top} {e : Env} {v : View} {l : Cells} (x : Text) → Agree whole T D c e v l → Found-at c x v l (variable c x e)
   agree-var x (agEnd {c = c} {h = h} past) = var-end x c h past
   agree-var x (agVar {c = c} {x = y} {p = p} {n = n} {i = i} {xs = xs} {e = e} {v = v} {l = l} h q g) =
-      subst (λ (o : Option ℕ). Points whole T (Cells.cell (Cell.var n i) l) o (firstThat (isVariable (Filters.homeOf c) x) (View.entry (Entry.var y p xs) v)))
-      (sym (variable-here whole T c x y e))
-      (points-here whole T (same x (y .text)) (Entry.var y p xs) (Cell.var n i) l (variable c x e) (firstThat (isVariable (Filters.homeOf c) x) v) (sVar h q) refl (agree-var x g))
+      var-here c x y (Entry.var y p xs) (Cell.var n i) e v l (sVar h q) refl (agree-var x g)
   agree-var x (agValue {c = c} {x = y} {t = t} {n = n} {e = e} {v = v} {l = l} h g) =
-      subst (λ (o : Option ℕ). Points whole T (Cells.cell (Cell.value n) l) o (firstThat (isVariable (Filters.homeOf c) x) (View.entry (Entry.value y t) v)))
-      (sym (variable-here whole T c x y e))
-      (points-here whole T (same x (y .text)) (Entry.value y t) (Cell.value n) l (variable c x e) (firstThat (isVariable (Filters.homeOf c) x) v) (sValue h) refl (agree-var x g))
-  agree-var x (agLabel {c = c} {x = y} {n = n} {e = e} {v = v} {l = l} h g) =
-      subst (λ (o : Option ℕ). Points whole T (Cells.cell (Cell.label n) l) o (firstThat (isVariable (Filters.homeOf c) x) v)) (sym (variable-label whole T c x y e))
-      (points-later whole T (Cell.label n) l (variable c x e) (firstThat (isVariable (Filters.homeOf c) x) v) (agree-var x g))
-  agree-var x (agArg {c = c} {x = y} {n = n} r {e = e} {v = v} {l = l} {l′ = l′} h g′ g) =
-      subst (λ (o : Option ℕ). Points whole T (Cells.cell (Cell.arg n l′) l) o (firstThat (isVariable (Filters.homeOf c) x) v)) (sym (variable-arg whole T c x y e))
-      (points-later whole T (Cell.arg n l′) l (variable c x e) (firstThat (isVariable (Filters.homeOf c) x) v) (agree-var x g))
-  agree-var x (agFilter {c = c} d r {e = e} {v = v} {l = l} b h g′ g) =
-      subst (λ (o : Option ℕ). Points whole T l o (firstThat (isVariable (Filters.homeOf c) x) v)) (sym (variable-filter whole T c x d e)) (agree-var x g)
+      var-here c x y (Entry.value y t) (Cell.value n) e v l (sValue h) refl (agree-var x g)
+  agree-var x (agLabel {c = c} {x = y} {p = p} {n = n} {e = e} {v = v} {l = l} h g) =
+      subst (Found-at c x (View.entry (Entry.label y p) v) (Cells.cell (Cell.label n) l)) (sym (variable-label whole T c x y e))
+      (points-later whole T (Entry.label y p) (entriesOf v) (Cell.label n) l (variable c x e) (firstThat (isVariable (Filters.homeOf c) x) v) (agree-var x g))
+  agree-var x (agArg {c = c} {x = y} {t = t} {n = n} r {e = e} {v = v} {v′ = v′} {l = l} {l′ = l′} h g′ g) =
+      subst (Found-at c x (View.entry (Entry.arg y t v′) v) (Cells.cell (Cell.arg n l′) l)) (sym (variable-arg whole T c x y e))
+      (points-later whole T (Entry.arg y t v′) (entriesOf v) (Cell.arg n l′) l (variable c x e) (firstThat (isVariable (Filters.homeOf c) x) v) (agree-var x g))
+  agree-var x (agFilter {c = c} d r {e = e} {v = v} {l = l} b h g′ g) = subst (Found-at c x v l) (sym (variable-filter whole T c x d e)) (agree-var x g)
 
   -- and so is a label
-  pub agree-label : {c : Top} {e : Env} {v : View} {l : Cells} (x : Text) → Agree whole T D c e v l → Points whole T l (findLabel x e) (firstThat (isLabel x) v)
+  pub agree-label : {c : Top} {e : Env} {v : View} {l : Cells} (x : Text) → Agree whole T D c e v l
+      → Points whole T (entriesOf v) l (findLabel x e) (firstThat (isLabel x) v)
   agree-label x (agEnd {h = h} past) =
-      subst (Points whole T (ending whole T D) none) (sym (first-outer whole h (isLabel x) (λ y. refl) (λ y. refl))) tt
-  agree-label x (agVar {n = n} {i = i} {e = e} {v = v} {l = l} h q g) = points-later whole T (Cell.var n i) l (findLabel x e) (firstThat (isLabel x) v) (agree-label x g)
-  agree-label x (agValue {n = n} {e = e} {v = v} {l = l} h g) = points-later whole T (Cell.value n) l (findLabel x e) (firstThat (isLabel x) v) (agree-label x g)
+      subst (Points whole T (entriesOf (ByName.outer whole h)) (ending whole T D) none) (sym (first-outer whole h (isLabel x) (λ y. refl) (λ y. refl))) tt
+  agree-label x (agVar {x = y} {p = p} {n = n} {i = i} {xs = xs} {e = e} {v = v} {l = l} h q g) =
+      points-later whole T (Entry.var y p xs) (entriesOf v) (Cell.var n i) l (findLabel x e) (firstThat (isLabel x) v) (agree-label x g)
+  agree-label x (agValue {x = y} {t = t} {n = n} {e = e} {v = v} {l = l} h g) =
+      points-later whole T (Entry.value y t) (entriesOf v) (Cell.value n) l (findLabel x e) (firstThat (isLabel x) v) (agree-label x g)
   agree-label x (agLabel {x = y} {p = p} {n = n} {e = e} {v = v} {l = l} h g) =
-      points-here whole T (same x (y .text)) (Entry.label y p) (Cell.label n) l (findLabel x e) (firstThat (isLabel x) v) (sLabel h) refl (agree-label x g)
-  agree-label x (agArg {n = n} r {e = e} {v = v} {l = l} {l′ = l′} h g′ g) = points-later whole T (Cell.arg n l′) l (findLabel x e) (firstThat (isLabel x) v) (agree-label x g)
+      points-here whole T (same x (y .text)) (Entry.label y p) (Cell.label n) (entriesOf v) l (findLabel x e) (firstThat (isLabel x) v) (sLabel h) refl (agree-label x g)
+  agree-label x (agArg {x = y} {t = t} {n = n} r {e = e} {v = v} {v′ = v′} {l = l} {l′ = l′} h g′ g) =
+      points-later whole T (Entry.arg y t v′) (entriesOf v) (Cell.arg n l′) l (findLabel x e) (firstThat (isLabel x) v) (agree-label x g)
   agree-label x (agFilter d r b h g′ g) = agree-label x g
 
   -- ---- calls
 
-  -- A call with a arguments, where k bindings are in view, means by name and by the rules nothing; or the same argument, which is the entry of the index; or the
+  -- A call with a arguments, where k bindings are in view and es are the entries, means by name and by the rules nothing; or the same argument, which is the entry of the index; or the
   -- same definition, whose list is the list less the skip; or a native
-  pub data Same (a k : ℕ) (l : Cells) : Found → Seen → Type 0 where
-    sNothing : Same a k l Found.nothing Seen.nothing
+  pub data Same (es : List Entry) (a k : ℕ) (l : Cells) : Found → Seen → Type 0 where
+    sNothing : Same es a k l Found.nothing Seen.nothing
     sArgument : {i n : ℕ} {x : Name} {t : Term} (r : Tail) {c : Top} {e : Env} {v : View} {l′ : Cells}
-        → a ≡ 0 → cellAt i l ≡ some (Cell.arg n l′) → Holds T n (suc n) (term c t e (suc n) r) → Agree whole T D c e v l′
-        → Same a k l (Found.argument i) (Seen.argument (Entry.arg x t v))
+        → a ≡ 0 → getElem? es i ≡ some (Entry.arg x t v) → cellAt i l ≡ some (Cell.arg n l′) → Holds T n (suc n) (term c t e (suc n) r) → Agree whole T D c e v l′
+        → Same es a k l (Found.argument i) (Seen.argument (Entry.arg x t v))
     sLocal : (d : Filter) {p : ℕ} {t : Term} (r : Tail) {c : Top} {e : Env} {v : View}
         → a ≡ length (d .params) → d .count ≤ k
         → Holds T (d .number) (suc (d .number)) (term c t (inside (d .name) (d .params) (d .number) e) (suc (d .number)) r)
         → Agree whole T D c e v (skip (k - d .count) l)
-        → Same a k l (Found.local d) (Seen.defined (def p (d .name) (d .params) t) v)
+        → Same es a k l (Found.local d) (Seen.defined (def p (d .name) (d .params) t) v)
     sModule : (d : Filter) {p : ℕ} {t : Term} (r : Tail) {c : Top} {e : Env} {v : View}
         → a ≡ length (d .params)
         → Holds T (d .number) (suc (d .number)) (term c t (inside (d .name) (d .params) (d .number) e) (suc (d .number)) r)
         → Agree whole T D c e v (skip k l)
-        → Same a k l (Found.ofModule d) (Seen.defined (def p (d .name) (d .params) t) v)
-    sNative : {i : ℕ} {ps : List Name} → a ≡ length ps → Same a k l (Found.ofNative i ps) Seen.native
+        → Same es a k l (Found.ofModule d) (Seen.defined (def p (d .name) (d .params) t) v)
+    sNative : {i : ℕ} {ps : List Name} → a ≡ length ps → Same es a k l (Found.ofNative i ps) Seen.native
 
   skip-suc : (k c : ℕ) (b : Cell) (l : Cells) → c ≤ k → skip (k - c) l ≡ skip (suc k - c) (Cells.cell b l)
   skip-suc k c b l h = let e : suc (k - c) ≡ suc k - c = omega arith in ap (λ (j : ℕ). skip j (Cells.cell b l)) e
 
-  same-later : {a k : ℕ} {l : Cells} {F : Found} {S : Seen} (b : Cell) → Same a k l F S → Same a (suc k) (Cells.cell b l) (later F) S
-  same-later b sNothing = sNothing
-  same-later b (sArgument r z s h g) = sArgument r z s h g
-  same-later {k} {l} b (sLocal d r {c = c} {e = e} {v = v} z w h g) = sLocal d r z (omega arith) h (subst (Agree whole T D c e v) (skip-suc k (d .count) b l w) g)
-  same-later b (sModule d r z h g) = sModule d r z h g
-  same-later b (sNative z) = sNative z
+  same-later : {es : List Entry} {a k : ℕ} {l : Cells} {F : Found} {S : Seen} (x : Entry) (b : Cell) → Same es a k l F S → Same (x ∷ es) a (suc k) (Cells.cell b l) (later F) S
+  same-later x b sNothing = sNothing
+  same-later x b (sArgument r z y s h g) = sArgument r z y s h g
+  same-later {k} {l} x b (sLocal d r {c = c} {e = e} {v = v} z w h g) = sLocal d r z (omega arith) h (subst (Agree whole T D c e v) (skip-suc k (d .count) b l w) g)
+  same-later x b (sModule d r z h g) = sModule d r z h g
+  same-later x b (sNative z) = sNative z
 
-  pub same-cond : {a k : ℕ} {l : Cells} {F F′ : Found} {S S′ : Seen} (b : Bool)
-      → (b ≡ true → Same a k l F S) → Same a k l F′ S′ → Same a k l (cond b F F′) (cond b S S′)
+  pub same-cond : {es : List Entry} {a k : ℕ} {l : Cells} {F F′ : Found} {S S′ : Seen} (b : Bool)
+      → (b ≡ true → Same es a k l F S) → Same es a k l F′ S′ → Same es a k l (cond b F F′) (cond b S S′)
   same-cond true x y = x refl
   same-cond false x y = y
 
@@ -319,12 +333,13 @@ module _ (whole : Tree) (T : Table) (D : List (List Filter)) where
   arity-of f g a n h = eqb-true a n (and-right (same f g) (eqb a n) h)
 
   -- "Filter by name and arity: innermost local"
-  pub agree-find : {c : Top} {e : Env} {v : View} {l : Cells} (f : Text) (a : ℕ) → Agree whole T D c e v l → Same a (count e) l (find f a e) (look f a v)
-  agree-find f a (agEnd {h = h} past) = subst (Same a 0 (ending whole T D) Found.nothing) (sym (look-outer whole h f a)) sNothing
-  agree-find f a (agVar {n = n} {i = i} h q g) = same-later (Cell.var n i) (agree-find f a g)
-  agree-find f a (agValue {n = n} h g) = same-later (Cell.value n) (agree-find f a g)
-  agree-find f a (agLabel {n = n} h g) = same-later (Cell.label n) (agree-find f a g)
-  agree-find f a (agArg {x = x} {n = n} r {l′ = l′} h g′ g) =
-      same-cond (same f (x .text) && eqb a 0) (λ t. sArgument r (arity-of f (x .text) a 0 t) refl h g′) (same-later (Cell.arg n l′) (agree-find f a g))
+  pub agree-find : {c : Top} {e : Env} {v : View} {l : Cells} (f : Text) (a : ℕ) → Agree whole T D c e v l → Same (entriesOf v) a (count e) l (find f a e) (look f a v)
+  agree-find f a (agEnd {h = h} past) = subst (Same (entriesOf (ByName.outer whole h)) a 0 (ending whole T D) Found.nothing) (sym (look-outer whole h f a)) sNothing
+  agree-find f a (agVar {x = x} {p = p} {n = n} {i = i} {xs = xs} h q g) = same-later (Entry.var x p xs) (Cell.var n i) (agree-find f a g)
+  agree-find f a (agValue {x = x} {t = t} {n = n} h g) = same-later (Entry.value x t) (Cell.value n) (agree-find f a g)
+  agree-find f a (agLabel {x = x} {p = p} {n = n} h g) = same-later (Entry.label x p) (Cell.label n) (agree-find f a g)
+  agree-find f a (agArg {x = x} {t = t} {n = n} r {v′ = v′} {l′ = l′} h g′ g) =
+      same-cond (same f (x .text) && eqb a 0) (λ w. sArgument r (arity-of f (x .text) a 0 w) refl refl h g′)
+      (same-later (Entry.arg x t v′) (Cell.arg n l′) (agree-find f a g))
   agree-find f a (agFilter d r b h g′ g) =
       same-cond (fits f a d) (λ t. sLocal d r (arity-of f (d .name .text) a (length (d .params)) t) b h g′) (agree-find f a g)

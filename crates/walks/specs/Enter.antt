@@ -1,31 +1,30 @@
 -- Into a called definition and into a passed argument: both walks make the move, or neither. Assumes nothing.
-use Prim.Native.Nat.{ℕ, zero, suc, _+_, _-_, _≤_}
+use Prim.Native.Nat.{ℕ, suc, _+_, _-_, _≤_}
 use native.Mathlib.Omega.{arith}
 use mathlib.Core.Path.{_≡_, refl, ap, sym, _∙_, subst}
 use mathlib.Core.Bool.{Bool, true, false, cond}
-use mathlib.Core.Option.{Option, none, some}
-use mathlib.Core.List.{List, [], _∷_, _++_}
+use mathlib.Core.Option.{Option, some}
+use mathlib.Core.List.{List, [], _∷_}
 use lib.ListN.{length, getElem?}
-use Rattle.tree.specs.Tree.{Name, Tree, Term, Terms, tsNil, tsCons, Def, def}
+use Rattle.tree.specs.Tree.{Name, Tree, Term, Terms, tsNil, tsCons, def}
 use Rattle.rules.specs.Names.{isVar}
-use Rattle.rules.specs.Table.{Rec, Err}
+use Rattle.rules.specs.Table.{Err}
 use Rattle.rules.specs.Tails.{Tail, empty, parent}
-use Rattle.rules.specs.Rows as Rows
 use Rattle.rules.specs.Rows.{Filter, Row, Env, count, param, params, filterOf, inside}
 use Rattle.rules.specs.Filters.{Top, Found}
-use Rattle.rules.specs.Outs.{Out, slot, size, Made, binds, callOut, arity}
+use Rattle.rules.specs.Outs.{Out, size, Made, binds, callOut, arity}
 use Rattle.rules.specs.Rules.{term, args}
 use Rattle.rules.specs.Slices.{Table, Slice}
 use Rattle.walks.specs.TreeWalk as ByName
 use Rattle.walks.specs.TreeWalk.{View, Entry, Seen}
 use Rattle.walks.specs.TableWalk as ByNumber
 use Rattle.walks.specs.TableWalk.{Cells, Cell, skip, here}
-use Rattle.walks.specs.Together.{nodesOf, SamePick, SameEntry, sArg, Known}
+use Rattle.walks.specs.Together.{nodesOf, entriesOf, entryOf, SamePick, sArg, Known}
 use Rattle.walks.specs.Holds.{has-error, node-at, Holds, Peeled, peel}
 use Rattle.walks.specs.Agree.{Agree, agValue, agArg, agFilter, Same, sNothing, sArgument, sLocal, sModule, sNative}
 use Rattle.walks.specs.Match.{Match, stands}
 use Rattle.walks.specs.Places.{holds-place, alike}
-use Rattle.walks.specs.Rows.{args-arity, Moved}
+use Rattle.walks.specs.Each.{args-arity, Moved}
 
 -- ---- how many parameters are pushed
 
@@ -102,6 +101,7 @@ module _ (whole : Tree) (T : Table) (D : List (List Filter)) where
     pub called : Moved whole T D (ByName.intoDefinition S ts v) (ByNumber.definitionOf (getElem? (nodesOf T) n) l)
     pub passed : Moved whole T D (ByName.intoArgument S) (ByNumber.through (ByNumber.picked (nodesOf T) (here n l)))
     pub picks : SamePick whole T (ByName.pickedArgument S) (ByNumber.picked (nodesOf T) (here n l))
+    pub counts : ByName.pickedArgument S ≡ entryOf (ByNumber.index (nodesOf T) (here n l)) (entriesOf v)
     pub known : Known whole T S
     pub form : ByName.callTag S ≡ ByNumber.tagOf (getElem? (nodesOf T) n)
 
@@ -112,14 +112,15 @@ module _ (whole : Tree) (T : Table) (D : List (List Filter)) where
       rw q (stands whole T D t n (suc n) c e r v l h g, sArg (holds-place whole T t n (suc n) c e r h) (alike whole T D g))
 
   pub call-acts : (ts : Terms) (n m p : ℕ) (x : Err) (r : Tail) (c : Top) (e : Env) (v : View) (l : Cells) {F : Found} {S : Seen}
-      → Same whole T D (arity ts) (count e) l F S → Holds T n m (callOut p (count e) r (args c ts e m) x F) → Agree whole T D c e v l → Acts S ts v n l
+      → Same whole T D (entriesOf v) (arity ts) (count e) l F S → Holds T n m (callOut p (count e) r (args c ts e m) x F) → Agree whole T D c e v l → Acts S ts v n l
   unfolding callOut
   call-acts ts n m p x r c e v l sNothing h g = absurd (has-error (args c ts e m .errs) x (h .fine))
-  call-acts ts n m p x r c e v l (sArgument {n = k} {x = y} {t = t} r′ {c = c′} {e = e′} {v = v′} {l′ = l′} z q h′ g′) h g =
+  call-acts ts n m p x r c e v l (sArgument {n = k} {x = y} {t = t} r′ {c = c′} {e = e′} {v = v′} {l′ = l′} z w q h′ g′) h g =
       record {
         called = rw (node-at T n _ (h .self)) tt;
         passed = rw (node-at T n _ (h .self)) (through-arg y t k r′ c′ e′ v′ l′ _ q h′ g′ .0);
         picks = rw (node-at T n _ (h .self)) (through-arg y t k r′ c′ e′ v′ l′ _ q h′ g′ .1);
+        counts = rw (node-at T n _ (h .self)) (sym w);
         known = tt;
         form = rw (node-at T n _ (h .self));
       }
@@ -128,6 +129,7 @@ module _ (whole : Tree) (T : Table) (D : List (List Filter)) where
         called = rw (node-at T n _ (h .self)) (into-body d p′ t r′ ts m c c′ e e′ v v′ l (skip (count e - d .count) l) z h′ (h .more) (h .fine) g g′);
         passed = rw (node-at T n _ (h .self)) tt;
         picks = rw (node-at T n _ (h .self)) tt;
+        counts = rw (node-at T n _ (h .self));
         known = tt;
         form = rw (node-at T n _ (h .self));
       }
@@ -136,8 +138,16 @@ module _ (whole : Tree) (T : Table) (D : List (List Filter)) where
         called = rw (node-at T n _ (h .self)) (into-body d p′ t r′ ts m c c′ e e′ v v′ l (skip (count e) l) z h′ (h .more) (h .fine) g g′);
         passed = rw (node-at T n _ (h .self)) tt;
         picks = rw (node-at T n _ (h .self)) tt;
+        counts = rw (node-at T n _ (h .self));
         known = tt;
         form = rw (node-at T n _ (h .self));
       }
   call-acts ts n m p x r c e v l (sNative z) h g =
-      record { called = rw (node-at T n _ (h .self)) tt; passed = rw (node-at T n _ (h .self)) tt; picks = rw (node-at T n _ (h .self)) tt; known = tt; form = rw (node-at T n _ (h .self)) }
+      record {
+        called = rw (node-at T n _ (h .self)) tt;
+        passed = rw (node-at T n _ (h .self)) tt;
+        picks = rw (node-at T n _ (h .self)) tt;
+        counts = rw (node-at T n _ (h .self));
+        known = tt;
+        form = rw (node-at T n _ (h .self));
+      }

@@ -4,20 +4,24 @@ use Prim.Native.String.{String}
 use mathlib.Core.Path.{_≡_, refl}
 use mathlib.Core.Option.{Option, none, some}
 use mathlib.Core.List.{List, [], _∷_}
-use Rattle.fields.specs.Number.{value}
-use Rattle.tree.specs.Tree.{Name, Term, noTerm, tsNil, tsCons, dsNil, dsCons, Def, def, pVar, pArr, aPattern, noPattern, psNil, psCons, sNil, sCons, sText, sTerm, esNil, esCons, noFormat, noGlobals, aGlobals, Uses, Module, Tree, tId, tNum, tLabel, tBreak, tVar, tCall, tDef, tPipe, tStr, tObj}
+use Rattle.fields.specs.Number.{number, value}
+use Rattle.fields.specs.Field.{field}
+use Rattle.fields.specs.Outcome.{listing}
+use Rattle.tree.specs.Tree.{Name, Term, noTerm, tsNil, tsCons, dsNil, dsCons, def, pVar, pArr, aPattern, noPattern, psNil, psCons, sNil, sCons, sText, sTerm, esNil, esCons, noFormat, noGlobals, aGlobals, Uses, Module, Tree, tId, tNum, tLabel, tBreak, tVar, tCall, tDef, tPipe, tStr, tObj}
 use Rattle.rules.specs.Names.{ascii}
 use Rattle.rules.specs.Tails.{bit, has, without, subset, localCall, moduleKind}
-use Rattle.rules.specs.Filters.{Imported, variable, filterNamed, importMeant, partMeant, meant}
+use Rattle.rules.specs.Filters.{variable, filterNamed, importMeant, partMeant, meant}
 use Rattle.rules.specs.Outs.{varOut, numeral, callOut, sumOut, loneOut}
 use Rattle.rules.specs.Rules.{called, formatOut, term}
 use Rattle.rules.specs.Modules.{modules, compile}
+use Rattle.rules.specs.Listing.{termListing, listed, compiling, patBytes, optPatBytes}
 use Rattle.walks.specs.Moves.{Role, Move}
 use Rattle.walks.specs.TreeWalk as ByName
 use Rattle.walks.specs.TreeWalk.{Entry}
 use Rattle.walks.specs.TableWalk as ByNumber
-use Rattle.walks.specs.TableWalk.{Cells, Cell, cellAt}
+use Rattle.walks.specs.TableWalk.{Cells, Cell}
 use Rattle.walks.specs.Together.{nodesOf, byName, byNumber}
+use Rattle.walks.specs.Reader.{withNumber, withField, readPat, readOptPat, readNodes, readListing}
 
 -- ---- what is shown of a walk: the place or number where it stands, and the entry that is picked there
 
@@ -131,6 +135,30 @@ the-mark = (refl, refl)
 pub not-the-label : listOf (byNumber bay (right ∷ only ∷ right ∷ [])) ≡ some (Cells.cell (Cell.var 3 0) (Cells.cell (Cell.label 2) (Cells.cell (Cell.var 0 0) Cells.end)))
 unfolding compile modules term varOut variable
 not-the-label = refl
+
+-- the bytes that leave the compiler: the edition and main's number; Pipe 0, Id 1, Label 2, Pipe 3, Id 4, and a variable of index 2
+abbrev bayBytes : List ℕ
+bayBytes =
+    0x00 ∷ 3 ∷ 0 ∷ 1 ∷ 0 ∷ 0
+    ∷ 0x5E ∷ 5 ∷ 0 ∷ 1 ∷ 0 ∷ 1 ∷ 2 ∷ 0
+    ∷ 0x50 ∷ 0 ∷ 0
+    ∷ 0x5C ∷ 2 ∷ 0 ∷ 3 ∷ 0
+    ∷ 0x5E ∷ 5 ∷ 0 ∷ 4 ∷ 0 ∷ 1 ∷ 5 ∷ 0
+    ∷ 0x50 ∷ 0 ∷ 0
+    ∷ 0x59 ∷ 2 ∷ 0 ∷ 2 ∷ 0
+    ∷ []
+
+pub bay-listed : compiling bay ≡ listing 0 bayBytes
+unfolding compiling listed termListing compile modules term varOut variable optPatBytes patBytes field number
+bay-listed = refl
+
+-- and the same walk in them
+abbrev inBytes : Option ByNumber.State
+inBytes = ByNumber.walk (readListing bayBytes .nodes) (right ∷ only ∷ right ∷ []) (some (ByNumber.start (readListing bayBytes .main) 0 0))
+
+pub the-mark-in-bytes : inBytes ≡ some (ByNumber.here 5 (Cells.cell (Cell.var 3 0) (Cells.cell (Cell.label 2) (Cells.cell (Cell.var 0 0) Cells.end))))
+unfolding readListing withField withNumber readNodes readOptPat readPat value
+the-mark-in-bytes = refl
 
 -- ---- modules, imported variables, globals
 

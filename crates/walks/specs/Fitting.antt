@@ -1,8 +1,7 @@
 -- Every record of a tree of at most 32,768 bytes that inserts at most 4,096 terms fits its field: each number its bytes, each content its length. Assumes nothing.
-use Prim.Native.Nat.{ℕ, zero, suc, _+_, _*_, _≤_, _<_, _^_}
+use Prim.Native.Nat.{ℕ, suc, _+_, _*_, _≤_, _<_}
 use native.Mathlib.Omega.{arith}
-use mathlib.Core.Path.{_≡_, refl, ap, sym, _∙_, subst}
-use mathlib.Core.Bool.{Bool}
+use mathlib.Core.Path.{_≡_, refl, ap}
 use mathlib.Core.Option.{Option, none, some}
 use mathlib.Core.List.{List, [], _∷_, _++_}
 use lib.ListN.{length, length-append}
@@ -10,24 +9,23 @@ use Rattle.fields.specs.Number.{number, length-number}
 use Rattle.fields.specs.Field.{field, length-field}
 use Rattle.tree.specs.Tree.{Name, Native, Globals, noGlobals, aGlobals, Uses, Module, Main, Tree, Def}
 use Rattle.tree.specs.Rose.{Roses, node, rnil, rcons}
-use Rattle.tree.specs.Form.{fTerm, fDefs, fNames, fNative, fNatives, fGlobals, fUses, fModule, fModules, fMain, fTree}
+use Rattle.tree.specs.Form.{fTerm, fDefs, fNative, fNatives, fGlobals, fUses, fModule, fModules, fMain, fTree}
 use Rattle.rules.specs.Table.{kindNumber, Arg, Pat, patVar, patIdx, Pats, patsNil, patsCons, Folding, reduce, foreach, Step, index, range, Rec, Node, nId, nRecurse, nToString, nInt, nNum, nStr, nArr, nObjEmpty, nObjSingle, nVar, nCallDef, nNative, nLabel, nNeg, nPipe, nComma, nAssign, nUpdate, nUpdateMath, nUpdateAlt, nLogic, nMath, nCmp, nAlt, nTryCatch, nIte, nFold, nPath}
 use Rattle.rules.specs.Tails.{empty}
 use Rattle.rules.specs.Rows.{Filter, filters}
 use Rattle.rules.specs.Filters.{Top}
-use Rattle.rules.specs.Outs.{Out, slot, Made}
+use Rattle.rules.specs.Outs.{slot, Made}
 use Rattle.rules.specs.Rules.{Scope, term, defs}
 use Rattle.rules.specs.Modules.{globalsOf, importedBy, importedFrom, topOf, modules, compile}
 use Rattle.rules.specs.Lists.{Every, every-map}
 use Rattle.rules.specs.Slices.{Table}
-use Rattle.rules.specs.Listing.{flag, argList, patCount, patBytes, patsBytes, optPatBytes, foldBytes, optNumber, stepBytes, stepsBytes, nodeBytes}
+use Rattle.rules.specs.Listing.{flag, argList, patCount, patBytes, patsBytes, optPatBytes, foldBytes, optNumber, stepBytes, stepsBytes}
 use Rattle.rules.specs.Numbers.{In, InArgs, InPat, InPats, InOptPat, InOpt, InStep, InFold, Fine}
 use Rattle.rules.specs.Fine.{Of, table-fine}
 use Rattle.rules.specs.Count.{inserted, table-count}
 use Rattle.walks.specs.Weights.{weigh, weighs, names-weigh}
-use Rattle.walks.specs.Light.{outerCount}
 use Rattle.walks.specs.Lightness.{Light, AllLight, both, light, light-defs}
-use Rattle.walks.specs.ReadBack.{Small, SmallOpt, SmallArgs, SmallPat, SmallPats, SmallOptPat, SmallStep, SmallFolding, SmallNode, Fits}
+use Rattle.walks.specs.ReadBack.{Small, SmallOpt, SmallArgs, SmallPat, SmallPats, SmallOptPat, SmallStep, SmallFolding, Fits}
 
 -- ---- the fields of the whole tree
 

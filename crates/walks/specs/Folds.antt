@@ -1,10 +1,10 @@
 -- The members of a Fold: "source, pattern, init, update, projection; update and projection under the variables". A Fold of another name or count has an error.
 -- Assumes nothing.
-use Prim.Native.Nat.{ℕ, zero, suc, _+_}
+use Prim.Native.Nat.{ℕ, suc, _+_}
 use native.Mathlib.Omega.{arith}
-use mathlib.Core.Path.{_≡_, refl, ap, sym, _∙_, subst}
+use mathlib.Core.Path.{_≡_, subst}
 use mathlib.Core.Bool.{Bool, true, false, cond}
-use mathlib.Core.Option.{Option, none, some}
+use mathlib.Core.Option.{none, some}
 use mathlib.Core.List.{List, [], _∷_, _++_}
 use lib.ListN.{length, length-append, getElem?}
 use Rattle.tree.specs.Tree.{Name, Tree, Term, Terms, tsNil, tsCons, Pattern, tFold}
@@ -26,7 +26,7 @@ use Rattle.walks.specs.Together.{nodesOf, PlaceAt}
 use Rattle.walks.specs.Holds.{nil-left, nil-right, has-error, node-at, Holds, Peeled, peel, only, place-at}
 use Rattle.walks.specs.Agree.{Agree}
 use Rattle.walks.specs.Match.{Match, stands}
-use Rattle.walks.specs.Rows.{pattern-vars, Both, both-keys, agree-push, Each, as-member, each-append, each-ranked}
+use Rattle.walks.specs.Each.{pattern-vars, Both, both-keys, agree-push, Each, as-member, each-append, each-ranked}
 use Rattle.walks.specs.Members.{Has}
 
 -- The records of a Fold from m on, as the rules number them

@@ -1,33 +1,33 @@
 -- The members of every form: a walk in matching states has the same ones in the tree and in the table. Assumes nothing.
-use Prim.Native.Nat.{ℕ, zero, suc, _+_, _-_, _^_}
-use mathlib.Core.Path.{_≡_, refl}
-use mathlib.Core.Option.{Option, none, some}
+use Prim.Native.Nat.{ℕ, suc, _+_, _-_, _^_}
+use mathlib.Core.Path.{_≡_}
+use mathlib.Core.Option.{Option, some}
 use mathlib.Core.Bool.{Bool, true, false, cond, _&&_}
 use mathlib.Core.List.{List, [], _∷_, _++_}
 use lib.ListN.{length, getElem?}
 use lib.Dec.{leb}
 use Rattle.tree.specs.Tree.{Tree, Term, OptTerm, Branches, OptPattern, StrParts, sNil, sCons, StrPart, Entries, esNil, esCons, Format, operator, textPlace, Terms, tsNil, tId, tRecurse, tArr, tNeg, tLabel, tBreak, tIfThenElse, tVar, tCall, tDef, tNum, tTryCatch, tFold, tPipe, tBinOp, tPath, tStr, tObj}
 use Rattle.rules.specs.Names.{Text}
-use Rattle.rules.specs.Table.{Rec, Err, Node, nInt, nNum, nIte, nLabel, nPipe, Pat, Step, uVar, uLabel}
+use Rattle.rules.specs.Table.{Rec, nInt, nNum, nIte, nLabel, nPipe, Pat, Step, uVar, uLabel}
 use Rattle.rules.specs.Tails.{Tail, empty}
 use Rattle.rules.specs.Rows as Rows
-use Rattle.rules.specs.Rows.{Filter, Row, Env, count, findLabel}
+use Rattle.rules.specs.Rows.{Filter, Row, Env, findLabel}
 use Rattle.rules.specs.Filters.{Top, variable, meant, errorAt}
-use Rattle.rules.specs.Outs.{Out, slot, size, Made, bare, leftAllows, rightAllows, binary, areDigits, decimal, iteOut, numeral, varsOf, arity}
+use Rattle.rules.specs.Outs.{Out, slot, size, Made, leftAllows, rightAllows, areDigits, decimal, iteOut, numeral, varsOf, arity}
 use Rattle.rules.specs.Rules as Rules
 use Rattle.rules.specs.Rules.{called, term, branches, args, optPattern, parts}
 use Rattle.rules.specs.Slices.{Table, Slice, slice-left, slice-right}
 use Rattle.walks.specs.Moves.{Role, ranked}
 use Rattle.walks.specs.TreeWalk as ByName
-use Rattle.walks.specs.TreeWalk.{View, Entry, Spot, seen, stand, orEmpty, elseAt, keysOf, termMembers, spotMembers}
+use Rattle.walks.specs.TreeWalk.{View, Entry, Spot, stand, orEmpty, elseAt, keysOf, termMembers, spotMembers}
 use Rattle.walks.specs.TableWalk as ByNumber
 use Rattle.walks.specs.TableWalk.{Cells, Cell, here, atEach, optVars, optKeys}
 use Rattle.walks.specs.Together.{nodesOf}
-use Rattle.walks.specs.Holds.{nil-left, nil-right, node-at, Holds, Peeled, peel, only, place-at}
+use Rattle.walks.specs.Holds.{node-at, Holds, Peeled, peel, only, place-at}
 use Rattle.walks.specs.Agree.{Agree, agLabel}
 use Rattle.walks.specs.Calls.{AllStocked, agree-meant}
-use Rattle.walks.specs.Match.{Plain, Held, HeldTerm, HeldCall, leafNode, Match, stands, at-or, at-else}
-use Rattle.walks.specs.Rows.{opt-vars, as-member, each-ranked, both-opt-keys, agree-push, each-parts}
+use Rattle.walks.specs.Match.{Plain, Held, leafNode, Match, stands, at-or, at-else}
+use Rattle.walks.specs.Each.{opt-vars, as-member, each-ranked, both-opt-keys, agree-push, each-parts}
 use Rattle.walks.specs.Members.{Has, leaf-members, var-members, call-members, operator-members}
 use Rattle.walks.specs.Folds.{fold-members}
 use Rattle.walks.specs.Sums.{shown-members, parts-members, entries-members, single-members, reading-members}

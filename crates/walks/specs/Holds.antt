@@ -1,12 +1,11 @@
 -- What the rules give stands in the table: facts of one term's records, and how those of its members are taken off one by one. Assumes nothing.
 use Prim.Native.Nat.{ℕ, zero, suc, _+_}
-use native.Mathlib.Omega.{arith}
 use mathlib.Core.Path.{_≡_, refl, ap}
-use mathlib.Core.Option.{Option, none, some, Option·map, Option·none-ne-some}
+use mathlib.Core.Option.{some, Option·map, Option·none-ne-some}
 use mathlib.Core.List.{List, [], _∷_, _++_, cons≢nil}
-use lib.ListN.{length, getElem?}
+use lib.ListN.{getElem?}
 use Rattle.tree.specs.Tree.{Tree}
-use Rattle.rules.specs.Table.{Rec, Node, Err}
+use Rattle.rules.specs.Table.{Rec, Err}
 use Rattle.rules.specs.Outs.{Out, slot, size}
 use Rattle.rules.specs.Slices.{Table, Slice, slice-left, slice-right}
 use Rattle.walks.specs.Together.{nodesOf, PlaceAt}

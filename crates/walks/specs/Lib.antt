@@ -7,7 +7,7 @@ pub mod Agree
 pub mod Calls
 pub mod Match
 pub mod Places
-pub mod Rows
+pub mod Each
 pub mod Members
 pub mod Folds
 pub mod Sums
@@ -15,11 +15,12 @@ pub mod Forms
 pub mod Enter
 pub mod Steps
 pub mod Whole
-pub mod Examples
 pub mod Reader
 pub mod ReadBack
 pub mod Weights
 pub mod Light
 pub mod Lightness
 pub mod Fitting
+pub mod Accepted
+pub mod Examples
 pub mod Promises

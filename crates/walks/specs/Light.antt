@@ -1,27 +1,26 @@
 -- What a record may weigh, and the parts of the rules one by one: an index lies in view, a list has no more members than its fields in the tree, a pattern or a
 -- path no more bytes than its fields allow. Assumes nothing.
-use Prim.Native.Nat.{ℕ, zero, suc, _+_, _-_, _*_, _≤_, _<_, _^_}
+use Prim.Native.Nat.{ℕ, suc, _+_, _*_, _≤_, _<_}
 use native.Mathlib.Omega.{arith}
-use mathlib.Core.Path.{_≡_, refl, ap, sym, _∙_, subst}
+use mathlib.Core.Path.{_≡_, refl, subst}
 use mathlib.Core.Bool.{Bool, true, false, cond, _&&_}
 use mathlib.Core.Option.{Option, none, some, Option·map}
 use mathlib.Core.List.{List, [], _∷_, _++_}
-use lib.ListN.{length, length-append, getD, drop, length-drop}
-use lib.Dec.{eqb, leb}
-use borrow.Author.Tests.{leb-true}
+use lib.ListN.{length, length-append}
+use lib.Dec.{eqb}
 use Rattle.fields.specs.Number.{number, length-number}
-use Rattle.tree.specs.Tree.{Name, Number, Native, Term, Terms, tsNil, tsCons, Pattern, pVar, pArr, pObj, OptPattern, noPattern, aPattern, Patterns, psNil, psCons, PatEntries, pesNil, pesCons, Parts, partsNil, partsCons, Part, partIndex, partRange, Bound, noBound, aBound, tVar, tId, tRecurse, tArr, tNeg, tLabel, tBreak, tIfThenElse, tCall, tDef, tNum, tTryCatch, tFold, tPipe, tBinOp, tPath, tStr, tObj}
+use Rattle.tree.specs.Tree.{Name, Number, Native, Terms, tsNil, tsCons, Pattern, pVar, pArr, pObj, OptPattern, noPattern, aPattern, Patterns, psNil, psCons, PatEntries, pesNil, pesCons, Parts, partsNil, partsCons, Part, partIndex, partRange, Bound, noBound, aBound}
 use Rattle.tree.specs.Rose.{rnil}
 use Rattle.tree.specs.Form.{fTerm, fTerms, fPattern, fOptPattern, fPatterns, fPatEntries, fParts, fPart, fBound, fMark}
 use Rattle.rules.specs.Names.{Text, same, isVar, Parted, plain, parted, parting}
-use Rattle.rules.specs.Table.{Arg, Pat, Pats, Folding, Step, Rec, Err, Node, nId, nRecurse, nToString, nInt, nNum, nStr, nArr, nObjEmpty, nObjSingle, nVar, nCallDef, nNative, nLabel, nNeg, nPipe, nComma, nAssign, nUpdate, nUpdateMath, nUpdateAlt, nLogic, nMath, nCmp, nAlt, nTryCatch, nIte, nFold, nPath}
-use Rattle.rules.specs.Tails.{Tail, empty}
+use Rattle.rules.specs.Table.{Pat, Pats, Step}
+use Rattle.rules.specs.Tails.{empty}
 use Rattle.rules.specs.Rows.{Filter, var, label, arg, filter, Env, count, findVar, findLabel, pushVars, param, params}
 use Rattle.rules.specs.Filters.{Top, orElse, lastThat, importedVar, globalVar, variable, Found, nothing, argument, local, ofModule, ofNative, later, fits, find, inModule, included, nativeOf, foundIn, foundElse, filterNamed, importNamed, importMeant, partMeant, meant}
-use Rattle.rules.specs.Outs.{Out, slot, size, Made, binds, varOut, callOut, numeral, areDigits, decimal, varName, vars, varsAll, varsKeyed, varsOf, arity, isOptional}
-use Rattle.rules.specs.Rules.{term, called, args, pattern, elements, keyed, optPattern, parts, part, bound}
-use Rattle.rules.specs.Lists.{Every, every-append, either}
-use Rattle.rules.specs.Listing.{flag, argList, patBytes, patsBytes, optPatBytes, optNumber, stepBytes, stepsBytes, patCount}
+use Rattle.rules.specs.Outs.{size, Made, vars, varsAll, varsKeyed, varsOf, arity, isOptional}
+use Rattle.rules.specs.Rules.{term, pattern, elements, keyed, optPattern, parts, part, bound}
+use Rattle.rules.specs.Lists.{either}
+use Rattle.rules.specs.Listing.{flag, patBytes, patsBytes, optPatBytes, optNumber, stepBytes, stepsBytes, patCount}
 use Rattle.walks.specs.Weights.{weigh, weighs, weigh-three}
 
 -- ---- indices

@@ -1,23 +1,22 @@
 -- Every record of an accepted or refused tree is light: its indices, lists and texts are bounded by the bytes of the tree. One induction over the tree.
 -- Assumes nothing.
-use Prim.Native.Nat.{ℕ, zero, suc, _+_, _-_, _*_, _≤_, _<_, _^_}
+use Prim.Native.Nat.{ℕ, suc, _+_, _-_, _*_, _≤_, _<_, _^_}
 use native.Mathlib.Omega.{arith}
-use mathlib.Core.Path.{_≡_, refl, ap, sym, _∙_, subst}
+use mathlib.Core.Path.{_≡_, refl}
 use mathlib.Core.Bool.{Bool, true, false, cond, _&&_, false≢true}
 use mathlib.Core.Option.{Option, none, some}
 use mathlib.Core.List.{List, [], _∷_, _++_}
-use lib.ListN.{length, length-append, drop, length-drop}
+use lib.ListN.{length, length-append, length-drop}
 use lib.Dec.{leb}
 use borrow.Author.Tests.{leb-true}
 use Rattle.fields.specs.Number.{number, value, length-number}
-use Rattle.text.specs.Utf8.{utf8}
 use Rattle.tree.specs.Tree.{Name, Term, OptTerm, noTerm, aTerm, Terms, tsNil, tsCons, Branches, bNone, bElse, bPair, Defs, dsNil, dsCons, Def, def, Pattern, pVar, pArr, pObj, OptPattern, noPattern, aPattern, Patterns, psNil, psCons, PatEntries, pesNil, pesCons, Parts, partsNil, partsCons, Part, partIndex, partRange, Bound, noBound, aBound, StrParts, sNil, sCons, StrPart, sText, sChar, sTerm, Entries, esNil, esCons, Format, noFormat, aFormat, Operator, oComma, oAlt, oOr, oAnd, oAssign, oUpdate, oUpdateAlt, oMath, oUpdateMath, oCmp, oNone, operator, textPlace, tId, tRecurse, tArr, tNeg, tLabel, tBreak, tIfThenElse, tVar, tCall, tDef, tNum, tTryCatch, tFold, tPipe, tBinOp, tPath, tStr, tObj}
 use Rattle.tree.specs.Rose.{Roses, rnil, rcons}
-use Rattle.tree.specs.Form.{fName, fNames, fTerm, fOptTerm, fTerms, fBranches, fDefs, fDef, fPattern, fOptPattern, fPatterns, fPatEntries, fParts, fPart, fBound, fStrParts, fStrPart, fEntries, fFormat, fMark}
+use Rattle.tree.specs.Form.{fNames, fTerm, fOptTerm, fTerms, fBranches, fDefs, fDef, fPattern, fOptPattern, fPatterns, fPatEntries, fParts, fPart, fBound, fStrParts, fStrPart, fEntries, fFormat, fMark}
 use Rattle.rules.specs.Names.{Text, ascii, same}
-use Rattle.rules.specs.Table.{Arg, Pat, Pats, Folding, reduce, foreach, Step, index, Rec, Err, Node, nId, nRecurse, nToString, nInt, nNum, nStr, nArr, nObjEmpty, nObjSingle, nVar, nCallDef, nNative, nLabel, nNeg, nPipe, nComma, nAssign, nUpdate, nUpdateMath, nUpdateAlt, nLogic, nMath, nCmp, nAlt, nTryCatch, nIte, nFold, nPath, uVar, uLabel}
+use Rattle.rules.specs.Table.{Pat, reduce, foreach, Step, index, Rec, Err, Node, nId, nRecurse, nToString, nInt, nNum, nStr, nArr, nObjEmpty, nObjSingle, nVar, nCallDef, nNative, nLabel, nNeg, nPipe, nComma, nAssign, nUpdate, nUpdateMath, nUpdateAlt, nLogic, nMath, nCmp, nAlt, nTryCatch, nIte, nFold, nPath, uVar, uLabel}
 use Rattle.rules.specs.Tails.{Tail, empty, bit, union, sibling}
-use Rattle.rules.specs.Rows.{Filter, Row, Env, count, level, findLabel, filterOf, inside, pushVars, params}
+use Rattle.rules.specs.Rows.{Row, Env, count, level, findLabel, filterOf, inside, pushVars, params}
 use Rattle.rules.specs.Filters.{Top, Found, nothing, argument, local, ofModule, ofNative, variable, meant, errorAt}
 use Rattle.rules.specs.Outs.{Out, slot, size, node, fail, Made, bare, binds, varOut, callOut, numeral, areDigits, decimal, leftAllows, rightAllows, binary, iteOut, sumOut, sumOr, pairOut, loneOut, varName, vars, varsOf, arity}
 use Rattle.rules.specs.Rules as Rules
@@ -26,7 +25,7 @@ use Rattle.rules.specs.Lists.{Every, every-append}
 use Rattle.rules.specs.Listing.{patBytes, optPatBytes, stepBytes, stepsBytes}
 use Rattle.walks.specs.Weights.{weigh, weighs, weigh-three, names-weigh, defs-weigh, format-weigh, bound-weigh, utf8-length}
 use Rattle.walks.specs.Light.{Below, label-below, outerCount, variable-below, FoundBelow, meant-below, push-count, params-count, pattern-bytes, vars-weigh, opt-vars-weigh, opt-pattern-bytes, parts-bytes, arity-weigh}
-use Rattle.walks.specs.Rows.{args-arity}
+use Rattle.walks.specs.Each.{args-arity}
 
 -- K: the bytes of the tree
 module _ (K : ℕ) where

@@ -1,20 +1,20 @@
 -- Matching states of the two walks, and that a walk which comes to a term stands in one. What the rules give for the term, or for what the compiler supplies at
 -- its field, is in the table, and the lists agree. Assumes nothing.
-use Prim.Native.Nat.{ℕ, zero, suc, _+_, _-_, _≤_, _<_}
+use Prim.Native.Nat.{ℕ, suc, _+_, _-_}
 use native.Mathlib.Nat.{le-refl}
 use native.Mathlib.Omega.{arith}
-use mathlib.Core.Path.{_≡_, refl, ap, sym, _∙_, subst}
-use mathlib.Core.Bool.{Bool, true, false, cond}
-use mathlib.Core.Option.{Option, none, some}
-use mathlib.Core.List.{List, [], _∷_, _++_}
+use mathlib.Core.Path.{_≡_, subst}
+use mathlib.Core.Bool.{false}
+use mathlib.Core.Option.{none, some}
+use mathlib.Core.List.{List, [], _∷_}
 use lib.ListN.{length, getElem?}
-use Rattle.tree.specs.Tree.{Name, Tree, Term, OptTerm, noTerm, aTerm, Branches, bNone, bElse, bPair, Defs, dsNil, dsCons, Def, def, StrParts, sNil, sCons, StrPart, sText, sChar, sTerm, Entries, esNil, esCons, Format, noFormat, aFormat, textPlace, tId, tRecurse, tArr, tNeg, tLabel, tBreak, tIfThenElse, tVar, tCall, tDef, tNum, tTryCatch, tFold, tPipe, tBinOp, tPath, tStr, tObj}
-use Rattle.rules.specs.Names.{Text, ascii}
-use Rattle.rules.specs.Table.{Rec, Node, nId, nToString, nInt, nStr, nObjEmpty, nPipe, nPath, index, Err}
+use Rattle.tree.specs.Tree.{Tree, Term, OptTerm, noTerm, aTerm, Branches, bNone, bElse, bPair, Defs, dsNil, dsCons, def, StrParts, sNil, sCons, StrPart, sText, sChar, sTerm, Entries, esNil, esCons, Format, noFormat, aFormat, textPlace, tId, tRecurse, tArr, tNeg, tLabel, tBreak, tIfThenElse, tVar, tCall, tDef, tNum, tTryCatch, tFold, tPipe, tBinOp, tPath, tStr, tObj}
+use Rattle.rules.specs.Names.{Text}
+use Rattle.rules.specs.Table.{Node, nId, nToString, nInt, nStr, nObjEmpty, nPipe, nPath, index}
 use Rattle.rules.specs.Tails.{Tail, empty, bit, union, sibling}
-use Rattle.rules.specs.Rows.{Filter, Row, Env, count, level, filterOf, inside}
+use Rattle.rules.specs.Rows.{Filter, Row, Env, count, level, filterOf}
 use Rattle.rules.specs.Filters.{Top}
-use Rattle.rules.specs.Outs.{Out, slot, size, bare, sumOut, sumOr, varName}
+use Rattle.rules.specs.Outs.{Out, size, bare, sumOut, sumOr, varName}
 use Rattle.rules.specs.Rules as Rules
 use Rattle.rules.specs.Rules.{Scope, called, emptyOut, formatOut, term, branches, defs, body, strings, string, entry}
 use Rattle.rules.specs.Slices.{Table, Slice, slice-left, slice-right}

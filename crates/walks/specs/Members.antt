@@ -1,33 +1,28 @@
 -- The members of each form of term, and of what the compiler supplies: both walks have the same, and stand in matching states in each. Assumes nothing.
-use Prim.Native.Nat.{ℕ, zero, suc, _+_}
+use Prim.Native.Nat.{ℕ}
 use native.Mathlib.Omega.{arith}
-use mathlib.Core.Path.{_≡_, refl, ap, sym, _∙_, subst}
-use mathlib.Core.Bool.{Bool, true, false, cond}
+use mathlib.Core.Path.{_≡_, _∙_}
 use mathlib.Core.Option.{Option, none, some}
-use mathlib.Core.List.{List, [], _∷_, _++_}
-use lib.ListN.{length, length-append, getElem?}
-use Rattle.tree.specs.Tree.{Name, Tree, Term, OptTerm, noTerm, aTerm, Terms, tsNil, tsCons, Branches, Pattern, OptPattern, Parts, StrParts, sNil, sCons, StrPart, Entries, esNil, esCons, Format, Operator, oComma, oAlt, oOr, oAnd, oAssign, oUpdate, oUpdateAlt, oMath, oUpdateMath, oCmp, oNone, operator, textPlace, tId, tRecurse, tArr, tNeg, tLabel, tBreak, tIfThenElse, tVar, tCall, tDef, tNum, tTryCatch, tFold, tPipe, tBinOp, tPath, tStr, tObj}
-use Rattle.rules.specs.Names.{Text, ascii, same}
-use Rattle.rules.specs.Table.{Rec, Err, Node, nId, nStr, nObjEmpty, nFold, nPipe, nPath, nObjSingle, nLabel, Pat, Folding, reduce, foreach, Step, index, uVar, uLabel}
-use Rattle.rules.specs.Tails.{Tail, empty}
-use Rattle.rules.specs.Rows as Rows
-use Rattle.rules.specs.Rows.{Filter, Row, Env, count, findLabel}
-use Rattle.rules.specs.Filters.{Top, Found, variable, meant, errorAt}
-use Rattle.rules.specs.Outs.{Out, slot, size, node, leaf, fail, Made, bare, binds, varOut, callOut, binary, leftAllows, rightAllows, iteOut, sumOut, sumOr, pairOut, loneOut, numeral, varName, vars, varsOf, arity}
-use Rattle.rules.specs.Rules as Rules
-use Rattle.rules.specs.Rules.{Waiting, called, foldError, foldEnd, foldOut, term, args, branches, pattern, optPattern, parts, strings, string, entry}
-use Rattle.rules.specs.Slices.{Table, Slice, slice-left, slice-right}
-use Rattle.walks.specs.Moves.{Role, Member, lone, ranked}
+use mathlib.Core.List.{List, []}
+use lib.ListN.{length, getElem?}
+use Rattle.tree.specs.Tree.{Name, Tree, Terms, tsNil, tsCons, Operator, oComma, oAlt, oOr, oAnd, oAssign, oUpdate, oUpdateAlt, oMath, oUpdateMath, oCmp, oNone}
+use Rattle.rules.specs.Table.{Err}
+use Rattle.rules.specs.Tails.{Tail}
+use Rattle.rules.specs.Rows.{Filter, Env, count}
+use Rattle.rules.specs.Filters.{Top, Found}
+use Rattle.rules.specs.Outs.{binds, varOut, callOut, binary, arity}
+use Rattle.rules.specs.Rules.{args}
+use Rattle.rules.specs.Slices.{Table, Slice}
+use Rattle.walks.specs.Moves.{Role, Member, ranked}
 use Rattle.walks.specs.TreeWalk as ByName
-use Rattle.walks.specs.TreeWalk.{View, Entry, Spot, Leaf, Seen, seen, stand, orEmpty, elseAt, partAt, partsAt, entriesAt, formatAt, arguments, keys, keysOf, folded, operands, pathParts, loneMembers, entryMembers, termMembers, spotMembers}
+use Rattle.walks.specs.TreeWalk.{View, Leaf, Seen, arguments, operands}
 use Rattle.walks.specs.TableWalk as ByNumber
-use Rattle.walks.specs.TableWalk.{Cells, Cell, here, atEach, patVars, patKeys, optVars, optKeys}
-use Rattle.walks.specs.Together.{nodesOf, PlaceAt}
-use Rattle.walks.specs.Holds.{nil-left, nil-right, has-error, node-at, Holds, Peeled, peel, only, place-at}
-use Rattle.walks.specs.Agree.{Agree, agLabel, Same, sNothing, sArgument, sLocal, sModule, sNative}
-use Rattle.walks.specs.Calls.{AllStocked, agree-meant}
-use Rattle.walks.specs.Match.{Plain, Held, HeldTerm, HeldParts, HeldSingle, HeldEntries, HeldReading, HeldShown, HeldCall, leafNode, entryOut, Match, stands, at-or, at-else, at-part, at-parts, at-entries, at-format}
-use Rattle.walks.specs.Rows.{numbers-bound, args-arity, pattern-vars, opt-vars, Each, as-member, each-append, each-ranked, Both, both-args, both-keys, both-opt-keys, agree-push, each-parts}
+use Rattle.walks.specs.TableWalk.{Cells, here, atEach}
+use Rattle.walks.specs.Together.{nodesOf, entriesOf}
+use Rattle.walks.specs.Holds.{has-error, node-at, Holds}
+use Rattle.walks.specs.Agree.{Agree, Same, sNothing, sArgument, sLocal, sModule, sNative}
+use Rattle.walks.specs.Match.{leafNode, Match}
+use Rattle.walks.specs.Each.{numbers-bound, args-arity, Each, as-member, each-ranked, both-args}
 
 module _ (whole : Tree) (T : Table) (D : List (List Filter)) where
   -- the members that the table walk has
@@ -61,11 +56,11 @@ module _ (whole : Tree) (T : Table) (D : List (List Filter)) where
       let ns : List ℕ = args c ts e m .made in
       rw (numbers-bound ps ns (args-arity c ts e m ∙ z)) (each-ranked whole T D Role.argument 0 (arguments ts v) (atEach ns l) (both-args whole T D ts m c e v l s f g))
 
-  pub call-members : (ts : Terms) (n m p : ℕ) (x : Err) (r : Tail) (c : Top) (e : Env) (v : View) (l : Cells) {F : Found} {S : Seen} → Same whole T D (arity ts) (count e) l F S
+  pub call-members : (ts : Terms) (n m p : ℕ) (x : Err) (r : Tail) (c : Top) (e : Env) (v : View) (l : Cells) {F : Found} {S : Seen} → Same whole T D (entriesOf v) (arity ts) (count e) l F S
       → Holds T n m (callOut p (count e) r (args c ts e m) x F) → Agree whole T D c e v l → Has (ranked Role.argument 0 (arguments ts v)) n l
   unfolding callOut
   call-members ts n m p x r c e v l sNothing h g = absurd (has-error (args c ts e m .errs) x (h .fine))
-  call-members ts n m p x r c e v l (sArgument r′ z q h′ g′) h g = rw (node-at T n _ (h .self)) (no-arguments ts v z)
+  call-members ts n m p x r c e v l (sArgument r′ z y q h′ g′) h g = rw (node-at T n _ (h .self)) (no-arguments ts v z)
   call-members ts n m p x r c e v l (sLocal d r′ z b h′ g′) h g = rw (node-at T n _ (h .self)) (arguments-each ts (d .params) m c e v l z (h .more) (h .fine) g)
   call-members ts n m p x r c e v l (sModule d r′ z h′ g′) h g = rw (node-at T n _ (h .self)) (arguments-each ts (d .params) m c e v l z (h .more) (h .fine) g)
   call-members ts n m p x r c e v l (sNative {ps = ps} z) h g = rw (node-at T n _ (h .self)) (arguments-each ts ps m c e v l z (h .more) (h .fine) g)

@@ -2,7 +2,7 @@
 -- and into a passed argument through its entry." A member has a role and a rank, so that a move means the same to a walk that sees the tree and to one that
 -- sees the table. Assumes nothing.
 use Prim.Native.Nat.{ℕ, suc}
-use mathlib.Core.Bool.{Bool, cond, _&&_}
+use mathlib.Core.Bool.{cond, _&&_}
 use mathlib.Core.Option.{Option, none, some}
 use mathlib.Core.List.{List, [], _∷_}
 use lib.Dec.{eqb}

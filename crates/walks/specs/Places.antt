@@ -1,19 +1,19 @@
 -- The place of what the rules give: a term's record has the place of its field, a Def's that of its body, and what is supplied the place of the field whose rule
 -- inserts it. So matching states stand at matching places, and agreeing lists match entry by entry. Assumes nothing.
-use Prim.Native.Nat.{ℕ, zero, suc, _+_}
+use Prim.Native.Nat.{ℕ, suc, _+_}
 use native.Mathlib.Omega.{arith}
 use mathlib.Core.Path.{_≡_, refl, ap, sym, _∙_, subst}
 use mathlib.Core.Bool.{Bool, true, false, cond}
 use mathlib.Core.Option.{Option, none, some}
-use mathlib.Core.List.{List, [], _∷_, _++_}
+use mathlib.Core.List.{List, [], _∷_}
 use lib.ListN.{length, getElem?}
-use Rattle.tree.specs.Tree.{Name, Tree, Term, OptTerm, noTerm, aTerm, StrParts, sNil, sCons, StrPart, sText, sChar, sTerm, Entries, esNil, esCons, Format, textPlace, operator, tId, tRecurse, tArr, tNeg, tLabel, tBreak, tIfThenElse, tVar, tCall, tDef, tNum, tTryCatch, tFold, tPipe, tBinOp, tPath, tStr, tObj}
+use Rattle.tree.specs.Tree.{Name, Tree, Term, OptTerm, noTerm, aTerm, StrParts, sNil, sCons, StrPart, sText, sChar, sTerm, Entries, esNil, esCons, Format, textPlace, tId, tRecurse, tArr, tNeg, tLabel, tBreak, tIfThenElse, tVar, tCall, tDef, tNum, tTryCatch, tFold, tPipe, tBinOp, tPath, tStr, tObj}
 use Rattle.rules.specs.Names.{Text, ascii, same}
 use Rattle.rules.specs.Table.{Rec, Node, nStr, nObjEmpty, Pat, Folding, reduce, foreach, Err, uVar, uLabel}
 use Rattle.rules.specs.Tails.{Tail, empty}
 use Rattle.rules.specs.Rows.{Filter, Env, count, findLabel}
 use Rattle.rules.specs.Filters.{Top, Found, nothing, argument, local, ofModule, ofNative, variable, meant, errorAt}
-use Rattle.rules.specs.Outs.{Out, slot, size, node, fail, Made, bare, varOut, callOut, iteOut, sumOut, sumOr, loneOut, vars, varName, arity}
+use Rattle.rules.specs.Outs.{Out, size, fail, Made, bare, varOut, callOut, iteOut, sumOut, sumOr, loneOut, vars, varName, arity}
 use Rattle.rules.specs.Rules as Rules
 use Rattle.rules.specs.Rules.{Waiting, called, foldError, foldEnd, foldOut, formatOut, term, args, defs, waiting, pattern, strings, string, entry}
 use Rattle.rules.specs.Slices.{Table}
@@ -24,7 +24,7 @@ use Rattle.walks.specs.TableWalk.{Cells, Cell}
 use Rattle.walks.specs.Together.{allImported, allGlobals, PlaceAt, Alike, alEnd, alEntry, alFilter, SameEntry, sImported, sGlobal, sVar, sValue, sLabel, sArg}
 use Rattle.walks.specs.Holds.{Holds, place-at}
 use Rattle.walks.specs.Agree.{Agree, agEnd, agVar, agValue, agLabel, agArg, agFilter, ending}
-use Rattle.walks.specs.Match.{Plain, Held, HeldTerm, HeldParts, HeldSingle, HeldEntries, Match, entryOut}
+use Rattle.walks.specs.Match.{Plain, Held, Match, entryOut}
 
 var-place : (p : ℕ) (x : Err) (i : Option ℕ) → varOut p x i .self .place ≡ p
 unfolding varOut

@@ -2,21 +2,21 @@
 -- Assumes nothing.
 use Prim.Native.Nat.{ℕ, zero, suc, _+_, _≤_, _<_, _^_}
 use native.Mathlib.Omega.{arith}
-use mathlib.Core.Path.{_≡_, refl, ap, ap₂, sym, _∙_, subst}
-use mathlib.Core.Bool.{Bool, true, false, cond}
+use mathlib.Core.Path.{_≡_, refl, ap, ap₂, sym, _∙_}
+use mathlib.Core.Bool.{Bool, true, false}
 use mathlib.Core.Option.{Option, none, some}
 use mathlib.Core.List.{List, [], _∷_, _++_, append-assoc, append-nil}
 use lib.ListN.{length, length-append, take, drop}
 use lib.Seq.{take-append-seam, drop-append-seam}
 use lib.Dec.{eqb}
-use Rattle.fields.specs.Number.{number, value, length-number, value-number}
+use Rattle.fields.specs.Number.{number, length-number, value-number}
 use Rattle.fields.specs.Field.{field, length-field}
-use Rattle.rules.specs.Table.{Kind, inline, throw, catchOne, catchAll, kindNumber, Arg, Pat, patVar, patIdx, Pats, patsNil, patsCons, Folding, reduce, foreach, Step, index, range, Rec, Node, nId, nRecurse, nToString, nInt, nNum, nStr, nArr, nObjEmpty, nObjSingle, nVar, nCallDef, nNative, nLabel, nNeg, nPipe, nComma, nAssign, nUpdate, nUpdateMath, nUpdateAlt, nLogic, nMath, nCmp, nAlt, nTryCatch, nIte, nFold, nPath}
+use Rattle.rules.specs.Table.{Kind, inline, throw, catchOne, catchAll, kindNumber, Arg, Pat, patVar, patIdx, Pats, patsNil, patsCons, Folding, reduce, foreach, Step, index, range, Node, nId, nRecurse, nToString, nInt, nNum, nStr, nArr, nObjEmpty, nObjSingle, nVar, nCallDef, nNative, nLabel, nNeg, nPipe, nComma, nAssign, nUpdate, nUpdateMath, nUpdateAlt, nLogic, nMath, nCmp, nAlt, nTryCatch, nIte, nFold, nPath}
 use Rattle.rules.specs.Lists.{Every}
-use Rattle.rules.specs.Listing.{flag, argKind, argList, patCount, patBytes, patsBytes, optPatBytes, foldBytes, optNumber, stepBytes, stepsBytes, two, nodeBytes, tableBytes, termListing}
+use Rattle.rules.specs.Listing.{flag, argKind, argList, patCount, patBytes, patsBytes, optPatBytes, foldBytes, optNumber, stepBytes, stepsBytes, nodeBytes, tableBytes, termListing}
 use Rattle.rules.specs.Slices.{Table}
 use Rattle.walks.specs.Together.{nodesOf}
-use Rattle.walks.specs.Reader.{withByte, withNumber, readArgs, readPat, readPats, readOptPat, readFolding, readOptNumber, readStep, readSteps, kindOf, one, pair, between, readCall, readNative, readPipe, readIte, readFold, readPath, readNode, withField, readNodes, Listed, readListing}
+use Rattle.walks.specs.Reader.{withByte, withNumber, readArgs, readPat, readPats, readOptPat, readFolding, readOptNumber, readStep, readSteps, kindOf, pair, between, readCall, readNative, readPipe, readIte, readFold, readPath, readNode, withField, readNodes, Listed, readListing}
 
 -- ---- what fits
 

@@ -1,7 +1,7 @@
 -- A reader of the listing of terms, as document 01's section Fields has it: from bytes back to main's number and the records. It says nothing of bytes that are
 -- no listing. Each part of a record is read from the front of the bytes and hands on what lies behind it. Assumes nothing.
 use Prim.Native.Nat.{ℕ, zero, suc}
-use mathlib.Core.Bool.{Bool, true, false, cond}
+use mathlib.Core.Bool.{cond}
 use mathlib.Core.Option.{Option, none, some}
 use mathlib.Core.List.{List, [], _∷_}
 use lib.ListN.{length, take, drop}

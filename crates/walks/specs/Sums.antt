@@ -1,21 +1,21 @@
 -- The members of what the compiler supplies for strings and objects: sums of parts and entries, a part piped into the format, a key and a value, and the Path by
 -- which a lone key reads itself. Assumes nothing.
-use Prim.Native.Nat.{ℕ, zero, suc, _+_}
+use Prim.Native.Nat.{ℕ, suc, _+_}
 use native.Mathlib.Omega.{arith}
-use mathlib.Core.Path.{_≡_, refl, subst}
+use mathlib.Core.Path.{_≡_, subst}
 use mathlib.Core.Bool.{false}
 use mathlib.Core.Option.{Option, none, some}
 use mathlib.Core.List.{List, [], _∷_, _++_}
 use lib.ListN.{length, getElem?}
-use Rattle.tree.specs.Tree.{Tree, Term, OptTerm, noTerm, aTerm, StrParts, sNil, sCons, StrPart, Entries, esNil, esCons, Format}
+use Rattle.tree.specs.Tree.{Tree, Term, OptTerm, noTerm, aTerm, StrParts, sCons, StrPart, Entries, esCons, Format}
 use Rattle.rules.specs.Names.{Text}
-use Rattle.rules.specs.Table.{Rec, Err, nId, nStr, nMath, nPath, nPipe, nObjSingle, index}
+use Rattle.rules.specs.Table.{Rec, nId, nStr, nMath, nPath, nPipe, nObjSingle, index}
 use Rattle.rules.specs.Tails.{empty}
 use Rattle.rules.specs.Rows.{Filter, Env}
 use Rattle.rules.specs.Filters.{Top}
-use Rattle.rules.specs.Outs.{Out, slot, size, leaf, sumOut, pairOut, loneOut, varName}
+use Rattle.rules.specs.Outs.{Out, slot, size, leaf, sumOut, loneOut, varName}
 use Rattle.rules.specs.Rules as Rules
-use Rattle.rules.specs.Rules.{term, strings, string, entry}
+use Rattle.rules.specs.Rules.{term, strings, string}
 use Rattle.rules.specs.Slices.{Table, Slice, slice-left, slice-right}
 use Rattle.walks.specs.Moves.{Role}
 use Rattle.walks.specs.TreeWalk as ByName
@@ -25,7 +25,7 @@ use Rattle.walks.specs.Together.{nodesOf}
 use Rattle.walks.specs.Holds.{nil-left, nil-right, node-at, Holds, Peeled, peel, only}
 use Rattle.walks.specs.Agree.{Agree}
 use Rattle.walks.specs.Match.{HeldShown, HeldParts, HeldSingle, HeldEntries, HeldReading, entryOut, Match, stands, at-part, at-parts, at-entries, at-format}
-use Rattle.walks.specs.Rows.{as-member}
+use Rattle.walks.specs.Each.{as-member}
 use Rattle.walks.specs.Members.{Has}
 
 -- a sum stands in the table: so do its sides

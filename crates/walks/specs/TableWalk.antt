@@ -2,11 +2,11 @@
 -- skip counts, argument lists and patterns. It knows no name, no place and no tree. Each sentence of document 01's section "The two walks" stands above what it
 -- says. Assumes nothing.
 use Prim.Native.Nat.{ℕ, zero, suc, _+_}
-use mathlib.Core.Bool.{Bool, true, false, cond}
+use mathlib.Core.Bool.{cond}
 use mathlib.Core.Option.{Option, none, some}
 use mathlib.Core.List.{List, [], _∷_, _++_}
-use lib.ListN.{length, getElem?}
-use Rattle.rules.specs.Table.{Arg, Pat, patVar, patIdx, Pats, patsNil, patsCons, Folding, reduce, foreach, Step, index, range, Rec, Node, nId, nRecurse, nToString, nInt, nNum, nStr, nArr, nObjEmpty, nObjSingle, nVar, nCallDef, nNative, nLabel, nNeg, nPipe, nComma, nAssign, nUpdate, nUpdateMath, nUpdateAlt, nLogic, nMath, nCmp, nAlt, nTryCatch, nIte, nFold, nPath}
+use lib.ListN.{getElem?}
+use Rattle.rules.specs.Table.{Arg, Pat, patVar, patIdx, Pats, patsNil, patsCons, Folding, reduce, foreach, Step, range, Node, nId, nRecurse, nToString, nInt, nNum, nStr, nArr, nObjEmpty, nObjSingle, nVar, nCallDef, nNative, nLabel, nNeg, nPipe, nComma, nAssign, nUpdate, nUpdateMath, nUpdateAlt, nLogic, nMath, nCmp, nAlt, nTryCatch, nIte, nFold, nPath}
 use Rattle.walks.specs.Moves.{Role, Move, Member, lone, ranked, pick}
 
 -- ---- the list
@@ -115,7 +115,7 @@ boundMember r i none l = []
 boundMember r i (some n) l = record { role = r; rank = i; state = here n l } ∷ []
 
 abbrev pub pathStep : ℕ → Step → Cells → List (Member State)
-pathStep i (index n o) l = record { role = Role.index; rank = i; state = here n l } ∷ []
+pathStep i (Step.index n o) l = record { role = Role.index; rank = i; state = here n l } ∷ []
 pathStep i (range a b o) l = boundMember Role.from i a l ++ boundMember Role.upto i b l
 
 -- the parts of a path, counted from i
@@ -203,35 +203,43 @@ intoDefinition (nPath a ss) l = none
 
 -- ---- what is picked: the entry of the index that a variable, a break or a call of an argument has
 
-abbrev pub nodePicked : Node → Cells → Option Cell
-nodePicked nId l = none
-nodePicked nRecurse l = none
-nodePicked nToString l = none
-nodePicked (nInt i) l = none
-nodePicked (nNum x) l = none
-nodePicked (nStr x) l = none
-nodePicked (nArr a) l = none
-nodePicked nObjEmpty l = none
-nodePicked (nObjSingle a b) l = none
-nodePicked (nVar i) l = cellAt i l
-nodePicked (nCallDef d as′ s k) l = none
-nodePicked (nNative i as′) l = none
-nodePicked (nLabel a) l = none
-nodePicked (nNeg a) l = none
-nodePicked (nPipe a x b) l = none
-nodePicked (nComma a b) l = none
-nodePicked (nAssign a b) l = none
-nodePicked (nUpdate a b) l = none
-nodePicked (nUpdateMath a k b) l = none
-nodePicked (nUpdateAlt a b) l = none
-nodePicked (nLogic a o b) l = none
-nodePicked (nMath a k b) l = none
-nodePicked (nCmp a k b) l = none
-nodePicked (nAlt a b) l = none
-nodePicked (nTryCatch a b) l = none
-nodePicked (nIte a b c) l = none
-nodePicked (nFold a x b c f) l = none
-nodePicked (nPath a ss) l = none
+abbrev pub nodeIndex : Node → Option ℕ
+nodeIndex nId = none
+nodeIndex nRecurse = none
+nodeIndex nToString = none
+nodeIndex (nInt i) = none
+nodeIndex (nNum x) = none
+nodeIndex (nStr x) = none
+nodeIndex (nArr a) = none
+nodeIndex nObjEmpty = none
+nodeIndex (nObjSingle a b) = none
+nodeIndex (nVar i) = some i
+nodeIndex (nCallDef d as′ s k) = none
+nodeIndex (nNative i as′) = none
+nodeIndex (nLabel a) = none
+nodeIndex (nNeg a) = none
+nodeIndex (nPipe a x b) = none
+nodeIndex (nComma a b) = none
+nodeIndex (nAssign a b) = none
+nodeIndex (nUpdate a b) = none
+nodeIndex (nUpdateMath a k b) = none
+nodeIndex (nUpdateAlt a b) = none
+nodeIndex (nLogic a o b) = none
+nodeIndex (nMath a k b) = none
+nodeIndex (nCmp a k b) = none
+nodeIndex (nAlt a b) = none
+nodeIndex (nTryCatch a b) = none
+nodeIndex (nIte a b c) = none
+nodeIndex (nFold a x b c f) = none
+nodeIndex (nPath a ss) = none
+
+abbrev pub indexOf : Option Node → Option ℕ
+indexOf none = none
+indexOf (some x) = nodeIndex x
+
+abbrev pub cellOf : Option ℕ → Cells → Option Cell
+cellOf none l = none
+cellOf (some i) l = cellAt i l
 
 -- "into a passed argument through its entry"
 abbrev pub through : Option Cell → Option State
@@ -256,12 +264,11 @@ abbrev pub definitionOf : Option Node → Cells → Option State
 definitionOf none l = none
 definitionOf (some x) l = intoDefinition x l
 
-abbrev pub pickedOf : Option Node → Cells → Option Cell
-pickedOf none l = none
-pickedOf (some x) l = nodePicked x l
+abbrev pub index : List Node → State → Option ℕ
+index T s = indexOf (getElem? T (s .at))
 
 abbrev pub picked : List Node → State → Option Cell
-picked T s = pickedOf (getElem? T (s .at)) (s .list)
+picked T s = cellOf (index T s) (s .list)
 
 abbrev pub step : List Node → Move → State → Option State
 step T (Move.member r i) s = pick r i (members T s)

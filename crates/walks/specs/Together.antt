@@ -5,7 +5,7 @@ use mathlib.Core.Path.{_≡_}
 use mathlib.Core.Option.{Option, none, some, Option·map}
 use mathlib.Core.List.{List, [], _∷_}
 use lib.ListN.{length, getElem?}
-use Rattle.tree.specs.Tree.{Name, Tree, Term, Def, Terms, tId, tRecurse, tArr, tNeg, tLabel, tBreak, tIfThenElse, tVar, tCall, tDef, tNum, tTryCatch, tFold, tPipe, tBinOp, tPath, tStr, tObj}
+use Rattle.tree.specs.Tree.{Name, Tree, Term, Def, tId, tRecurse, tArr, tNeg, tLabel, tBreak, tIfThenElse, tVar, tCall, tDef, tNum, tTryCatch, tFold, tPipe, tBinOp, tPath, tStr, tObj}
 use Rattle.rules.specs.Table.{Rec, Node}
 use Rattle.rules.specs.Filters.{Imported}
 use Rattle.rules.specs.Slices.{Table}
@@ -28,6 +28,21 @@ allImported whole = importedFrom 0 (whole .modules) (whole .main)
 
 abbrev pub allGlobals : Tree → List Name
 allGlobals whole = globalsOf (whole .globals)
+
+-- the entries of a list, the last pushed first
+abbrev pub entriesOf : View → List Entry
+entriesOf (View.end h) = []
+entriesOf (View.entry a v) = a ∷ entriesOf v
+entriesOf (View.filter d w v) = entriesOf v
+
+abbrev pub cellsOf : Cells → List Cell
+cellsOf Cells.end = []
+cellsOf (Cells.cell a l) = a ∷ cellsOf l
+
+-- the entry of an index
+abbrev pub entryOf : Option ℕ → List Entry → Option Entry
+entryOf none es = none
+entryOf (some i) es = getElem? es i
 
 module _ (whole : Tree) (T : Table) where
   -- "A term field matches the number that the rules give it.": the rules insert the term n for the field at p
@@ -106,6 +121,8 @@ module _ (whole : Tree) (T : Table) where
     pub form : ByName.tag whole s ≡ ByNumber.tag (nodesOf T) b
     pub lists : Alike (s .view) (b .list)
     pub picks : SamePick (ByName.picked whole s) (ByNumber.picked (nodesOf T) b)
+    -- "Index of a variable, label or filter argument: bindings pushed after the match.": what the name picks has the table's index among the walk's own entries
+    pub counts : ByName.picked whole s ≡ entryOf (ByNumber.index (nodesOf T) b) (entriesOf (s .view))
     pub finds : Finds (s .spot) (s .view)
 
   -- both walks have made the moves and stand together, or a move was there for neither

@@ -1,7 +1,7 @@
 -- The walk by names in the tree: where it stands, what is in view there, and where each move leads. Each sentence of document 01's section "The two walks"
 -- stands above what it says. It knows no number of the table: bindings and filters are found by name alone. Assumes nothing.
 use Prim.Native.Nat.{ℕ, suc, _-_, _^_}
-use mathlib.Core.Bool.{Bool, true, false, cond, _&&_}
+use mathlib.Core.Bool.{Bool, false, cond, _&&_}
 use mathlib.Core.Option.{Option, none, some}
 use mathlib.Core.List.{List, [], _∷_, _++_}
 use lib.ListN.{length, getElem?}

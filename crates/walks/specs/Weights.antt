@@ -1,17 +1,17 @@
 -- How many bytes the fields of a tree have, and what the lists of a tree come to in them. Assumes nothing.
-use Prim.Native.Nat.{ℕ, zero, suc, _+_, _*_, _≤_}
+use Prim.Native.Nat.{ℕ, _+_, _*_, _≤_}
 use native.Mathlib.Omega.{arith}
 use mathlib.Core.Path.{_≡_, refl, ap, sym, _∙_}
 use mathlib.Core.Bool.{Bool, true, false, cond}
-use mathlib.Core.List.{List, [], _∷_, _++_}
+use mathlib.Core.List.{List, [], _∷_}
 use lib.ListN.{length, length-append}
 use lib.Dec.{ltb}
 use Rattle.fields.specs.Field.{length-field}
 use Rattle.text.specs.Utf8.{utf8, encode, isScalar}
 use Rattle.tree.specs.Rose.{Rose, Roses, leaf, node, rnil, rcons}
 use Rattle.tree.specs.Encoded.{bytesOf, bytesIn}
-use Rattle.tree.specs.Tree.{Name, Term, Terms, tsNil, tsCons, Defs, dsNil, dsCons, Format, noFormat, aFormat, Mark, noMark, aMark, Bound, noBound, aBound}
-use Rattle.tree.specs.Form.{fName, fNames, fTerm, fTerms, fDefs, fFormat, fMark, fBound}
+use Rattle.tree.specs.Tree.{Name, Defs, dsNil, dsCons, Format, noFormat, aFormat, Bound, noBound, aBound}
+use Rattle.tree.specs.Form.{fNames, fTerm, fDefs, fFormat, fBound}
 
 -- "One-byte tag, two-byte length": the bytes of a field, of a row of fields
 abbrev mutual

@@ -2,12 +2,11 @@
 use Prim.Native.Nat.{ℕ, zero, suc, _+_, _≤_, _<_}
 use native.Mathlib.Omega.{arith}
 use mathlib.Core.Path.{_≡_, refl, ap, sym, _∙_, subst}
-use mathlib.Core.Option.{Option, none, some, Option·none-ne-some, Option·some-injective}
+use mathlib.Core.Option.{none, some, Option·none-ne-some, Option·some-injective}
 use mathlib.Core.List.{List, [], _∷_, _++_}
 use lib.ListN.{length, length-append, getElem?, getD, List·getD-eq-default, List·getD-append}
 use lib.Seq.{getD-append-seam}
-use Rattle.tree.specs.Tree.{Name, Uses, Module, Tree, Defs, dsNil, dsCons, Def, def}
-use Rattle.rules.specs.Table.{Rec, Err}
+use Rattle.tree.specs.Tree.{Uses, Module, Tree, Defs, dsNil, dsCons, def}
 use Rattle.rules.specs.Tails.{Tail, empty, sibling}
 use Rattle.rules.specs.Rows.{Filter, Row, Env, filterOf, filters}
 use Rattle.rules.specs.Filters.{Top}
@@ -17,15 +16,15 @@ use Rattle.rules.specs.Modules.{topOf, modules, compile}
 use Rattle.rules.specs.Slices.{Table, Slice, slice-left, slice-right, slice-self}
 use Rattle.walks.specs.Moves.{Move}
 use Rattle.walks.specs.TreeWalk as ByName
-use Rattle.walks.specs.TreeWalk.{View, Home, define}
-use Rattle.walks.specs.TableWalk as ByNumber
-use Rattle.walks.specs.TableWalk.{Cells, here}
-use Rattle.walks.specs.Together.{allImported, allGlobals, Together, byName, byNumber}
+use Rattle.walks.specs.TreeWalk.{Home, define}
+use Rattle.walks.specs.TableWalk.{here}
+use Rattle.walks.specs.Together.{Together, byName, byNumber}
 use Rattle.walks.specs.Holds.{nil-left, nil-right, Holds}
 use Rattle.walks.specs.Agree.{Past, ending, Agree, agEnd}
 use Rattle.walks.specs.Calls.{rowsOf, Stocked, AllStocked}
 use Rattle.walks.specs.Match.{Match, defines, stands}
-use Rattle.walks.specs.Steps.{match-walk}
+use Rattle.walks.specs.Steps.{match-moves, moved-together}
+use Rattle.walks.specs.Each.{Moved}
 
 -- ---- lists of modules
 
@@ -95,10 +94,32 @@ module _ (t : Tree) (T : Table) (D : List (List Filter)) where
       subst (λ (j : ℕ). Stocked t T D j m) z
       (stocked ms (ds ++ fs) (n + length (d .more)) q (slice-right T n (d .more) (o .more) s) (nil-right (d .errs) (o .errs) f) k m h)
 
--- The two walks of a program that is accepted without errors stand together after any moves
-pub walks-together : (t : Tree) → compile t .errs ≡ [] → (ms : List Move) → Together t (compile t .table) (byName t ms) (byNumber t ms)
+-- ---- a program that is accepted without errors
+
+-- the definitions of all its modules
+abbrev pub definitions : Tree → List (List Filter)
+definitions t = modules t (t .modules) [] 0 .made
+
+all-stocked : (t : Tree) → compile t .errs ≡ [] → AllStocked t (compile t .table) (definitions t)
 unfolding compile
-walks-together t q ms =
+all-stocked t q =
+    let m : Made (List (List Filter)) = modules t (t .modules) [] 0 in
+    let o : Out = term (topOf t (m .made) (t .main .uses)) (t .main .body) [] (suc (length (m .more))) empty in
+    let T : Table = m .more ++ slot o in
+    let count : length (m .made) ≡ 0 + length (t .modules) = made-length t (t .modules) [] 0 in
+    record {
+      there = λ i x y.
+          let w : 0 + i ≡ i = omega arith in
+          subst (λ (j : ℕ). Stocked t T (m .made) j x) w
+          (stocked t T (m .made) (t .modules) [] 0 refl (slice-left T 0 (m .more) (slot o) (slice-self T)) (nil-left (m .errs) (o .errs) q) i x y);
+      beyond = λ i y. List·getD-eq-default (m .made) [] (omega (arith, count, past-end (t .modules) i y));
+    }
+
+-- both walks start in matching states
+starts : (t : Tree) → compile t .errs ≡ []
+    → Match t (compile t .table) (definitions t) (ByName.start t) (here (compile t .main) (ending t (compile t .table) (definitions t)))
+unfolding compile
+starts t q =
     let m : Made (List (List Filter)) = modules t (t .modules) [] 0 in
     let D : List (List Filter) = m .made in
     let k : ℕ = length (m .more) in
@@ -109,15 +130,17 @@ walks-together t q ms =
     let s : Slice T k (slot o) = subst (λ (j : ℕ). Slice T j (slot o)) z (slice-right T 0 (m .more) (slot o) (slice-self T)) in
     let h : Holds T k (suc k) o = record { self = s .0; more = s .1; fine = nil-right (m .errs) (o .errs) q } in
     let count : length D ≡ length (t .modules) = let w : length D ≡ 0 + length (t .modules) = made-length t (t .modules) [] 0 in omega arith in
-    let all : AllStocked t T D = record {
-      there = λ i x y.
-          let w : 0 + i ≡ i = omega arith in
-          subst (λ (j : ℕ). Stocked t T D j x) w
-          (stocked t T D (t .modules) [] 0 refl (slice-left T 0 (m .more) (slot o) (slice-self T)) (nil-left (m .errs) (o .errs) q) i x y);
-      beyond = λ i y. List·getD-eq-default D [] (omega (arith, count, past-end (t .modules) i y));
-    } in
     let home : Home = record { number = length (t .modules); uses = t .main .uses } in
     let past : Past t T D c home = record { uses = refl; number = count; imported = refl; globals = refl; natives = refl; earlier = λ i b. refl } in
-    let start : Match t T D (ByName.start t) (here k (ending t T D)) =
-    stands t T D (t .main .body) k (suc k) c [] empty (ByName.outer t home) (ending t T D) h (agEnd past) in
-    match-walk t T D all ms (some (ByName.start t)) (some (here k (ending t T D))) start
+    stands t T D (t .main .body) k (suc k) c [] empty (ByName.outer t home) (ending t T D) h (agEnd past)
+
+-- the two walks are in matching states after any moves
+pub walks-match : (t : Tree) → compile t .errs ≡ [] → (ms : List Move) → Moved t (compile t .table) (definitions t) (byName t ms) (byNumber t ms)
+walks-match t q ms =
+    let T : Table = compile t .table in
+    let D : List (List Filter) = definitions t in
+    match-moves t T D (all-stocked t q) ms (some (ByName.start t)) (some (here (compile t .main) (ending t T D))) (starts t q)
+
+-- so they stand together
+pub walks-together : (t : Tree) → compile t .errs ≡ [] → (ms : List Move) → Together t (compile t .table) (byName t ms) (byNumber t ms)
+walks-together t q ms = moved-together t (compile t .table) (definitions t) (all-stocked t q) (byName t ms) (byNumber t ms) (walks-match t q ms)

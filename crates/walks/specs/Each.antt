@@ -1,5 +1,5 @@
 -- Rows of members: arguments, keys of patterns, parts of paths. Both walks have the same, one by one. Assumes nothing.
-use Prim.Native.Nat.{ℕ, zero, suc, _+_}
+use Prim.Native.Nat.{ℕ, suc, _+_}
 use native.Mathlib.Omega.{arith}
 use mathlib.Core.Path.{_≡_, refl, ap, sym, _∙_, subst}
 use mathlib.Core.Bool.{Bool, true, false, cond, _&&_}
@@ -7,13 +7,13 @@ use mathlib.Core.Option.{Option, none, some}
 use mathlib.Core.List.{List, [], _∷_, _++_}
 use lib.ListN.{length, length-append, getElem?}
 use lib.Dec.{eqb}
-use Rattle.tree.specs.Tree.{Name, Tree, Term, Terms, tsNil, tsCons, Pattern, pVar, pArr, pObj, OptPattern, noPattern, aPattern, Patterns, psNil, psCons, PatEntries, pesNil, pesCons, Parts, partsNil, partsCons, Part, partIndex, partRange, Bound, noBound, aBound}
-use Rattle.rules.specs.Table.{Rec, Err, Arg, Pat, Pats, Step, nInt}
-use Rattle.rules.specs.Tails.{Tail, empty}
+use Rattle.tree.specs.Tree.{Name, Tree, Terms, tsNil, tsCons, Pattern, pVar, pArr, pObj, OptPattern, noPattern, aPattern, Patterns, psNil, psCons, PatEntries, pesNil, pesCons, Parts, partsNil, partsCons, Part, partIndex, partRange, Bound, noBound, aBound}
+use Rattle.rules.specs.Table.{Pat, Pats, Step}
+use Rattle.rules.specs.Tails.{empty}
 use Rattle.rules.specs.Rows as Rows
 use Rattle.rules.specs.Rows.{Filter, Row, Env}
 use Rattle.rules.specs.Filters.{Top}
-use Rattle.rules.specs.Outs.{Out, slot, size, Made, binds, vars, varsAll, varsKeyed, varsOf, arity}
+use Rattle.rules.specs.Outs.{Out, size, Made, binds, vars, varsAll, varsKeyed, varsOf, arity}
 use Rattle.rules.specs.Rules.{term, args, pattern, elements, keyed, optPattern, parts, part, bound}
 use Rattle.rules.specs.Slices.{Table, Slice, slice-left, slice-right}
 use Rattle.walks.specs.Moves.{Role, roleNumber, Member, ranked, pick}
@@ -22,7 +22,7 @@ use Rattle.walks.specs.TreeWalk.{View, Entry, arguments, keys, elementKe
 use Rattle.walks.specs.TableWalk as ByNumber
 use Rattle.walks.specs.TableWalk.{Cells, Cell, here, atEach, argNumbers, patVars, patsVars, patKeys, patsKeys, optVars, optKeys, pathStep, pathSteps}
 use Rattle.walks.specs.Together.{PlaceAt}
-use Rattle.walks.specs.Holds.{nil-left, nil-right, Holds, Peeled, peel, only}
+use Rattle.walks.specs.Holds.{nil-left, nil-right, Peeled, peel, only}
 use Rattle.walks.specs.Agree.{Agree, agVar}
 use Rattle.walks.specs.Match.{Match, stands}
 
