@@ -23,4 +23,5 @@ pub mod Lightness
 pub mod Fitting
 pub mod Accepted
 pub mod Examples
+pub mod Compiled
 pub mod Promises

@@ -7,10 +7,12 @@ use mathlib.Core.Path.{_≡_, refl, sym, ap, subst, _∙_}
 use mathlib.Core.Bool.{Bool, true, false}
 use mathlib.Core.Option.{Option, none, some}
 use mathlib.Core.List.{List, []}
-use lib.ListN.{length, getElem?}
+use lib.ListN.{length, take, getElem?}
+use Rattle.fields.specs.declared.Answer.{Answer}
 use Rattle.fields.specs.Outcome.{listing}
 use Rattle.tree.specs.Tree.{Term, Tree}
 use Rattle.tree.specs.Form.{At, fTree}
+use Rattle.tree.specs.Verdict.{Encodes}
 use Rattle.tree.specs.Encoded.{Bytes}
 use Rattle.rules.specs.Tails.{Tail}
 use Rattle.rules.specs.Rows.{Env}
@@ -19,6 +21,7 @@ use Rattle.rules.specs.Rules.{term}
 use Rattle.rules.specs.Modules.{compile}
 use Rattle.rules.specs.Count.{inserted}
 use Rattle.rules.specs.Listing.{termListing, compiling}
+use Rattle.rules.specs.Entry.{Compiles}
 use Rattle.rules.specs.Slices.{Table}
 use Rattle.walks.specs.Moves.{Move}
 use Rattle.walks.specs.TreeWalk as ByName
@@ -34,6 +37,7 @@ use Rattle.walks.specs.ReadBack.{read-back}
 use Rattle.walks.specs.Weights.{weigh}
 use Rattle.walks.specs.Fitting.{fits}
 use Rattle.walks.specs.Accepted.{Accepted, tree-length, accepted}
+use Rattle.walks.specs.Compiled.{Taken, taken}
 
 -- ---- the walks
 
@@ -105,3 +109,19 @@ together-in-bytes b t s h l bytes q ms =
     let read : readListing bytes ≡ record { main = compile t .main; nodes = nodesOf (compile t .table) } = ap readListing (a .same) ∙ listing-read t w (a .few) in
     let walk : Listed → Option ByNumber.State = λ o. ByNumber.walk (o .nodes) ms (some (ByNumber.start (o .main) (length (allImported t)) (length (allGlobals t)))) in
     subst (λ (o : Listed). Together t (compile t .table) (byName t ms) (walk o)) (sym read) (together t (a .fine) ms)
+
+-- ---- the corollary: `compile`'s contract (crate compiler) is `Compiles`, bytes in and bytes out
+
+-- Whatever bytes b and room d are lent: if the answer is 0, then b are the bytes of a tree, and the walk in the listing that stands in the room and the walk in
+-- the tree stand together after any moves
+pub together-compiled : (b d d′ : List ℕ) (r : Answer) → Bytes b → Compiles b d d′ r → r .number ≡ 0
+    → (t : Tree) × Encodes b t × ((ms : List Move) → Together t (compile t .table) (byName t ms) (byListing (take (r .length) d′) (length (allImported t)) (length (allGlobals t)) ms))
+together-compiled b d d′ r s c e =
+    let w : Taken b d′ r = taken b d d′ r c e in
+    let t : Tree = w .tree in (
+      t,
+      w .encodes,
+      λ ms.
+          subst (λ (x : List ℕ). Together t (compile t .table) (byName t ms) (byListing x (length (allImported t)) (length (allGlobals t)) ms)) (sym (w .room))
+          (together-in-bytes b t s (w .encodes .at) (w .short) (w .bytes) (w .outcome) ms),
+    )

@@ -1,0 +1,5 @@
+pub mod Cells
+pub mod Notes
+pub mod Flat
+pub mod Packing
+pub mod Leaving

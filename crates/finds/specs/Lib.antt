@@ -1,0 +1,10 @@
+pub mod Means
+pub mod Keys
+pub mod Firsts
+pub mod Bindings
+pub mod Variables
+pub mod Calls
+pub mod Modules
+pub mod Asks
+pub mod Under
+pub mod Wide

@@ -1,0 +1,9 @@
+pub mod Bytes
+pub mod Widths
+pub mod Parts
+pub mod Shapes
+pub mod Lengths
+pub mod Folds
+pub mod Subs
+pub mod Texts
+pub mod Bounds

@@ -1,0 +1,3 @@
+pub mod Params
+pub mod Patterns
+pub mod Notes
