@@ -137,12 +137,12 @@ fn through(source: &[u8], scratch: &mut [u8], out: &mut [u8]) -> Answer
     list_tokens(source, p.tokens, scratch, out)
 }
 
-// Scratch costs its clearing, so that a short source gets little of it.
-fn small(source: &[u8], out: &mut [u8]) -> Answer
+// Scratch costs its clearing, so that there are several sizes of it.
+fn medium(source: &[u8], out: &mut [u8]) -> Answer
     requires { ⌜ length (now source) ≤ 32768 ⌝ }
     ensures { λ r. ⌜ Told (listed 2 (whole (now (source .entry)))) (now (out .entry)) (now (out .exit)) r ⌝ }
 {
-    let mut scratch = [0u8; 2048];
+    let mut scratch = [0u8; 8192];
     through(source, &mut scratch, out)
 }
 
@@ -158,8 +158,41 @@ fn large(source: &[u8], out: &mut [u8]) -> Answer
     requires { ⌜ length (now source) ≤ 32768 ⌝ }
     ensures { λ r. ⌜ Told (listed 2 (whole (now (source .entry)))) (now (out .entry)) (now (out .exit)) r ⌝ }
 {
+    let mut scratch = [0u8; 131072];
+    through(source, &mut scratch, out)
+}
+
+fn largest(source: &[u8], out: &mut [u8]) -> Answer
+    requires { ⌜ length (now source) ≤ 32768 ⌝ }
+    ensures { λ r. ⌜ Told (listed 2 (whole (now (source .entry)))) (now (out .entry)) (now (out .exit)) r ⌝ }
+{
     let mut scratch = [0u8; 262144];
     through(source, &mut scratch, out)
+}
+
+// By way of the scratch lent, if that has eight bytes for each of n, or else of more. What calls itself stays a function of
+// its own when it is compiled, and so do those with large frames that it calls: a short source pays for none of them.
+fn fitting(source: &[u8], n: usize, scratch: &mut [u8], out: &mut [u8]) -> Answer
+    requires { ⌜ (length (now source) ≤ 32768) × (n ≤ 32768) ⌝ }
+    ensures { λ r. ⌜ Told (listed 2 (whole (now (source .entry)))) (now (out .entry)) (now (out .exit)) r ⌝ }
+{
+    if n * 8 <= scratch.len() {
+        return through(source, scratch, out);
+    }
+    if n <= 256 {
+        let mut small = [0u8; 2048];
+        return fitting(source, n, &mut small, out);
+    }
+    if n <= 1024 {
+        return medium(source, out);
+    }
+    if n <= 4096 {
+        return middle(source, out);
+    }
+    if n <= 16384 {
+        return large(source, out);
+    }
+    largest(source, out)
 }
 
 // The tokens of a source, or what is wrong with it, listed in the room lent.
@@ -174,11 +207,7 @@ pub fn lex(source: &[u8], out: &mut [u8]) -> Answer
     if valid < n {
         return refused(3, valid);
     }
-    if n <= 256 {
-        return small(source, out);
-    }
-    if n <= 4096 {
-        return middle(source, out);
-    }
-    large(source, out)
+    let from = space::skip(source, 0);
+    let mut scratch = [0u8; 256];
+    fitting(source, n - from, &mut scratch, out)
 }
