@@ -11,7 +11,7 @@ use lib.Dec.{eqb}
 use borrow.Author.Tests.{eq-eqb, ne-eqb}
 use Rattle.lexer.specs.Scan.{byte, past}
 use Rattle.lexer.specs.Space.{inLine, lessCR, slashes, goesOn, nextLine}
-use Rattle.lexer.specs.Meets.{Reaches, newlines, Going}
+use Rattle.lexer.specs.Meets.{Reaches, counts, Going}
 use Rattle.lexer.proofs.Past.{more}
 
 pub in-line : (b : ℕ) → (b ≡ 0x0A → ⊥) → inLine b ≡ true
@@ -24,29 +24,23 @@ at-newline b h = simp (eq-eqb b 0x0A h)
 
 -- ---- blocks without a newline
 
-pub one-newline : (b : ℕ) → b ≡ 0x0A → _≡_ {A = ℕ} 1 (cond (inLine b) 0 1) × (1 ≤ 1)
-one-newline b h = (rw (at-newline b h), omega arith)
+none : (b : Bool) → _≡_ {A = ℕ} (cond b 1 0) 0 → not b ≡ true
+none false e = refl
+none true e = absurd (omega arith)
 
-pub no-newline : (b : ℕ) → (b ≡ 0x0A → ⊥) → _≡_ {A = ℕ} 0 (cond (inLine b) 0 1) × (0 ≤ 1)
-no-newline b n = (rw (in-line b n), omega arith)
+no-newline : (b : ℕ) → _≡_ {A = ℕ} (cond (eqb b 0x0A) 1 0) 0 → inLine b ≡ true
+unfolding inLine
+no-newline b e = none (eqb b 0x0A) e
 
-pub newlines-more : (s : List ℕ) (at n k r : ℕ) → n ≡ newlines s at k → r ≡ cond (inLine (byte s (at + k))) 0 1 → n + r ≡ newlines s at (k + 1)
-unfolding newlines
-newlines-more s at n k r e f = rw (add-one, e, f)
-
-none : (b : Bool) → _≡_ {A = ℕ} (cond b 0 1) 0 → b ≡ true
-none true e = refl
-none false e = absurd (omega arith)
-
-going-newlines : (s : List ℕ) (at i n : ℕ) → Going inLine s at i → i + n ≤ length s → newlines s i n ≡ 0 → Going inLine s at (i + n)
-unfolding newlines
-going-newlines s at i zero g h e = rw add-zero g
-going-newlines s at i (suc n) g h e =
+going-counts : (s : List ℕ) (at i n : ℕ) → Going inLine s at i → i + n ≤ length s → counts 0x0A s i n ≡ 0 → Going inLine s at (i + n)
+unfolding counts
+going-counts s at i zero g h e = rw add-zero g
+going-counts s at i (suc n) g h e =
     rw (add-suc, ← add-one)
-    (more inLine s at (i + n) (going-newlines s at i n g (omega arith) (omega arith)) (omega arith) (none (inLine (byte s (i + n))) (omega arith)))
+    (more inLine s at (i + n) (going-counts s at i n g (omega arith) (omega arith)) (omega arith) (no-newline (byte s (i + n)) (omega arith)))
 
-pub going-block : (s : List ℕ) (at i n r : ℕ) → Going inLine s at i → i + n ≤ length s → r ≡ newlines s i n → r ≡ 0 → Going inLine s at (i + n)
-going-block s at i n r g h e z = going-newlines s at i n g h (cc)
+pub going-block : (s : List ℕ) (at i n r : ℕ) → Going inLine s at i → i + n ≤ length s → r ≡ counts 0x0A s i n → r ≡ 0 → Going inLine s at (i + n)
+going-block s at i n r g h e z = going-counts s at i n g h (cc)
 
 -- ---- the end of a line
 

@@ -2,12 +2,15 @@
 use mathlib.Core.Path.{_≡_, refl, sym, ap, _∙_}
 use mathlib.Core.Bool.{Bool, true, false}
 use mathlib.Core.List.{List}
-use Prim.Native.Nat.{ℕ, suc, _+_, _-_, _≤_, _<_, min}
+use Prim.Native.Nat.{ℕ, zero, suc, _+_, _-_, _≤_, _<_, min}
+use native.Mathlib.Nat.{add-zero, add-suc}
+use native.Mathlib.Numerals.{add-one}
 use native.Mathlib.Omega.{arith}
 use lib.ListN.{length}
 use Rattle.lexer.specs.Scan.{byte, past}
 use Rattle.lexer.specs.Space.{blank, inLine, goesOn, nextLine, comment, space}
-use Rattle.lexer.specs.Meets.{Byte, Reaches, Spacing, bare}
+use Rattle.lexer.specs.Meets.{Byte, Reaches, Spacing, bare, counts}
+use Rattle.lexer.proofs.Counts.{counts-all}
 use Rattle.lexer.proofs.Blanks.{blank-space, bare-not}
 use Rattle.lexer.proofs.Skips.{on-some, comment-on, comment-off, space-blank, space-comment, space-stop}
 
@@ -33,6 +36,15 @@ module _ (s : List ℕ) (from : ℕ) where
 
   pub space-more : (at : ℕ) → Spacing s from at → at < length s → byte s at ≡ 0x20 → Spacing s from (at + 1)
   space-more at g h e = one-space at (byte s at) g (record { is = refl; within = omega arith }) e
+
+  spaces-more : (i n : ℕ) → Spacing s from i → i + n ≤ length s → counts 0x20 s i n ≡ n → Spacing s from (i + n)
+  spaces-more i zero g h e = rw add-zero g
+  spaces-more i (suc n) g h e =
+      let a = counts-all 0x20 s i n e in
+      rw (add-suc, ← add-one) (space-more (i + n) (spaces-more i n g (omega arith) (a .0)) (omega arith) (a .1))
+
+  pub spaces-block : (i n r : ℕ) → Spacing s from i → i + n ≤ length s → r ≡ counts 0x20 s i n → r ≡ n → Spacing s from (i + n)
+  spaces-block i n r g h e z = spaces-more i n g h (sym e ∙ z)
 
   pub on : (i at : ℕ) → Spacing s from i → Spacing s i at → Spacing s from at
   on i at g h = record { is = h .is ∙ g .is; low = omega (arith, g .low, h .low); high = h .high }

@@ -10,7 +10,7 @@ use Rattle.fields.specs.Field.{field}
 use Rattle.fields.specs.Room.{overlay}
 use Rattle.lexer.specs.Token.{Tokens, char, Error, Expect, missing}
 use Rattle.lexer.specs.Scan.{byte, past, Scan}
-use Rattle.lexer.specs.Space.{inLine, space}
+use Rattle.lexer.specs.Space.{space}
 use Rattle.lexer.specs.Escape.{hexDigit, hex, hexes}
 use Rattle.lexer.specs.Listing.{pair, errorTag, opener, tokensBytes, errorsBytes}
 use Rattle.lexer.specs.Read.{Read, read, deep, found, wrong}
@@ -28,10 +28,10 @@ pub record Byte (s : List ℕ) (at r : ℕ) : Type 0 where
 unfoldable pub bare : ℕ → Bool
 bare b = cond (ltb b 128) (cond (whiteSpace b) false (not (eqb b 0x23))) false
 
--- how many of the n bytes from a place on are newlines
-unfoldable pub newlines : List ℕ → ℕ → ℕ → ℕ
-newlines s at zero = 0
-newlines s at (suc n) = newlines s at n + cond (inLine (byte s (at + n))) 0 1
+-- how many of the n bytes from a place on are x
+unfoldable pub counts : ℕ → List ℕ → ℕ → ℕ → ℕ
+counts x s at zero = 0
+counts x s at (suc n) = counts x s at n + cond (eqb (byte s (at + n)) x) 1 0
 
 -- a place on the way along a run: what passes from there on ends where what passes from the start on ends
 pub record Going (p : ℕ → Bool) (s : List ℕ) (at i : ℕ) : Type 0 where

@@ -4,9 +4,10 @@ ghost use mathlib.Core.Path.{_≡_};
 ghost use mathlib.Core.Bool.{cond};
 ghost use Prim.Native.Nat.{_+_, _-_, _≤_, min};
 ghost use lib.ListN.{length};
+ghost use lib.Dec.{eqb};
 ghost use Rattle.lexer.specs.Scan.{past};
 ghost use Rattle.lexer.specs.Space.{blank, inLine, lessCR, goesOn, nextLine, space};
-ghost use Rattle.lexer.specs.Meets.{bare, newlines, Reaches, Going, Spacing};
+ghost use Rattle.lexer.specs.Meets.{bare, counts, Reaches, Going, Spacing};
 
 // How many bytes the white space character at a place has. One of ASCII is told by its byte.
 fn blank(s: &[u8], at: usize) -> usize
@@ -36,11 +37,11 @@ fn blank(s: &[u8], at: usize) -> usize
     0
 }
 
-// 1 for a newline.
-fn newline(b: u8) -> u8
-    ensures { λ r. ⌜ (r ≡ cond (inLine b) 0 1) × (r ≤ 1) ⌝ }
+// 1 where two bytes are the same.
+fn same(b: u8, x: u8) -> u8
+    ensures { λ r. ⌜ (r ≡ cond (eqb b x) 1 0) × (r ≤ 1) ⌝ }
 {
-    if b == 0x0A {
+    if b == x {
         return 1;
     }
     0
@@ -49,12 +50,26 @@ fn newline(b: u8) -> u8
 // How many of the 128 bytes from a place on are newlines: a loop with no way out, which compiles to a few wide instructions.
 fn newlines(s: &[u8], at: usize) -> u8
     requires { ⌜ at + 128 ≤ length (now s) ⌝ }
-    ensures { λ r. ⌜ r ≡ newlines (now (s .entry)) at 128 ⌝ }
+    ensures { λ r. ⌜ r ≡ counts 0x0A (now (s .entry)) at 128 ⌝ }
 {
     let mut n: u8 = 0;
     let mut k: usize = 0;
     while k < 128 {
-        n += newline(s[at + k]);
+        n += same(s[at + k], 0x0A);
+        k += 1;
+    }
+    n
+}
+
+// How many of the 16 bytes from a place on are spaces, in the same way. White space is mostly short, and so are these blocks.
+fn blanks(s: &[u8], at: usize) -> u8
+    requires { ⌜ at + 16 ≤ length (now s) ⌝ }
+    ensures { λ r. ⌜ r ≡ counts 0x20 (now (s .entry)) at 16 ⌝ }
+{
+    let mut n: u8 = 0;
+    let mut k: usize = 0;
+    while k < 16 {
+        n += same(s[at + k], 0x20);
         k += 1;
     }
     n
@@ -130,12 +145,27 @@ fn next_line(s: &[u8], end: usize) -> usize
     s.len()
 }
 
+// The place behind the blocks of 16 spaces that start at a place.
+fn long_space(s: &[u8], at: usize) -> usize
+    requires { ⌜ at ≤ length (now s) ⌝ }
+    ensures { λ r. ⌜ Spacing (now (s .entry)) at r ⌝ }
+{
+    let mut i = at;
+    while 16 <= s.len() - i {
+        if blanks(s, i) != 16 {
+            return i;
+        }
+        i += 16;
+    }
+    i
+}
+
 // The place behind the spaces that start at a place.
 fn spaces(s: &[u8], at: usize) -> usize
     requires { ⌜ at ≤ length (now s) ⌝ }
     ensures { λ r. ⌜ Spacing (now (s .entry)) at r ⌝ }
 {
-    let mut i = at;
+    let mut i = long_space(s, at);
     while i < s.len() {
         if s[i] != 0x20 {
             return i;

@@ -3,12 +3,13 @@ use Prim.Native.Nat.{_-_}
 use native.Mathlib.Omega.{arith}
 use lib.ListN.{length}
 use Rattle.lexer.specs.Meets.{Spacing}
-use Rattle.lexer.proofs.Spacing.{begin, space-more}
+use Rattle.lexer.proofs.Spacing.{space-more}
 use borrow.Author.Needs.{needs}
 use Rattle.lexer.proofs.space.spaces.Statement.{statement}
 use Rattle.lexer.proofs.space.spaces.Tie as tie
 use Rattle.lexer.proofs.space.spaces.Reads as reads
 use Rattle.lexer.proofs.space.spaces.Lts as lts
+use Rattle.lexer.proofs.space.long_space.Reads as long-space-reads
 
 abbrev Inv-loop : tie.InvT-loop
 Inv-loop s at i₀ i = Spacing s at i
@@ -16,8 +17,11 @@ Inv-loop s at i₀ i = Spacing s at i
 abbrev μ-loop : tie.MeasureT-loop
 μ-loop s at i₀ i = length s - i
 
+long-space-requires : tie.Need-long-space-requires Inv-loop μ-loop
+long-space-requires c κs = search needs
+
 loop-holds : tie.Need-loop-holds Inv-loop μ-loop
-loop-holds c = begin _ _ (search needs)
+loop-holds c = c .long-space .ensures
 
 shared-slice-read-if1 : tie.Need-shared-slice-read-if1 Inv-loop μ-loop
 shared-slice-read-if1 c = search needs
@@ -43,6 +47,7 @@ spaces-spec =
     (tie.spec
     Inv-loop
     μ-loop
+    long-space-requires
     loop-holds
     shared-slice-read-if1
     returns
