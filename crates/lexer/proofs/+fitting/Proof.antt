@@ -28,6 +28,7 @@ fitting-below t = and 3 fitting-kinds.ps (falls 3 fitting-kinds.ps _<_ μ-fittin
 
 fitting-met : {M : Type 1} (t : ℕ) → lts.Closed (through-reads.Asked, through-reads.Learnt, fitting-below t, fitting.Post, medium-reads.Asked, medium-reads.Learnt, middle-reads.Asked, middle-reads.Learnt, large-reads.Asked, large-reads.Learnt, largest-reads.Asked, largest-reads.Learnt) (fitting-at t) fitting.Post M
 fitting-met t = lts.spec (through-reads.Asked, through-reads.Learnt, fitting-below t, fitting.Post, medium-reads.Asked, medium-reads.Learnt, middle-reads.Asked, middle-reads.Learnt, large-reads.Asked, large-reads.Learnt, largest-reads.Asked, largest-reads.Learnt) (fitting-at t) fitting.Post
+    (λ c. search needs)  -- sub-n
     (λ c. search needs)  -- mul-if1
     (λ c κs. search needs)  -- through-requires
     (λ c. search needs)  -- same-length

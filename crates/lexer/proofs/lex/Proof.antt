@@ -29,9 +29,6 @@ returns-2 c = rw (c .refused2 .ensures, c .before .before .prefix .ensures) (inv
 skip-requires : tie.Need-skip-requires
 skip-requires c κs = search needs
 
-sub-fitting : tie.Need-sub-fitting
-sub-fitting c = search needs
-
 slice-aggregate-fitting : tie.Need-slice-aggregate-fitting
 slice-aggregate-fitting c = search needs
 
@@ -54,7 +51,6 @@ lex-spec =
     refused-requires-2
     returns-2
     skip-requires
-    sub-fitting
     slice-aggregate-fitting
     fitting-requires
     same-length
