@@ -132,13 +132,14 @@ pub fn prefix(s: &[u8]) -> usize
     ensures { λ r. ⌜ r ≡ validPrefix (now (s .entry)) ⌝ }
 {
     let mut i = ascii(s, skip(s));
-    loop {
+    while i < s.len() {
         let n = seq_len(s, i);
         if n == 0 {
             return i;
         }
         i = ascii(s, i + n);
     }
+    i
 }
 
 // The last bits of a byte: what it is modulo `m`.
