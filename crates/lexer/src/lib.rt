@@ -176,8 +176,8 @@ fn largest(source: &[u8], from: usize, out: &mut [u8]) -> Answer
     through(source, from, &mut scratch, out)
 }
 
-// By way of the scratch lent, if that has eight bytes for each that is left of the source, or else of more. What calls itself stays a function of
-// its own when it is compiled, and so do those with large frames that it calls: a short source pays for none of them.
+// By way of the scratch lent, if that has eight bytes for each byte that is left, or else of more. What calls itself is
+// compiled by itself, and so are those with large frames that it calls: a short source pays for none of them.
 fn fitting(source: &[u8], from: usize, scratch: &mut [u8], out: &mut [u8]) -> Answer
     requires { ⌜ Begun (now source) from ⌝ }
     ensures { λ r. ⌜ Told (listed 2 (whole (now (source .entry)))) (now (out .entry)) (now (out .exit)) r ⌝ }
