@@ -1,12 +1,12 @@
 -- White space, a character at a time. Assumes nothing.
 use mathlib.Core.Path.{_≡_, refl, sym, ap, _∙_}
-use mathlib.Core.Bool.{Bool, true, false, cond, Bool·beq}
+use mathlib.Core.Bool.{Bool, true, false, cond, not, Bool·beq}
 use mathlib.Core.List.{List, []}
 use Prim.Native.Nat.{ℕ, _+_, _-_, _≤_, _<_}
 use native.Mathlib.Omega.{arith}
 use lib.ListN.{length, drop, getD, drop-of-length-le, List·getD-eq-default}
-use lib.Dec.{ltb}
-use borrow.Author.Tests.{ltb-true, ltb-false}
+use lib.Dec.{ltb, eqb}
+use borrow.Author.Tests.{ltb-true, ltb-false, eqb-false}
 use Rattle.text.specs.Utf8.{seqLen, scalar, charAt, bits}
 use Rattle.text.specs.Space.{whiteSpace, spaces}
 use Rattle.text.proofs.Chars.{IsChar, is-char, char-ascii}
@@ -14,7 +14,7 @@ use Rattle.text.proofs.Rows.{seq-fits}
 use Rattle.text.specs.declared.Char.{Char}
 use Rattle.lexer.specs.Scan.{byte}
 use Rattle.lexer.specs.Space.{blank}
-use Rattle.lexer.specs.Meets.{Byte}
+use Rattle.lexer.specs.Meets.{Byte, bare}
 use Rattle.lexer.proofs.Every.{every, agree}
 
 no-blank : whiteSpace 0 ≡ false
@@ -38,6 +38,25 @@ blank-ascii s at b g h = go (ltb at (length s)) refl
         let n : drop at s ≡ [] = drop-of-length-le s (ltb-false at (length s) l) in
         let k : b ≡ 0 = g .is ∙ List·getD-eq-default s 0 (ltb-false at (length s) l) in
         rw (n, k, no-char, no-blank)
+
+a-blank : whiteSpace 0x20 ≡ true
+unfolding whiteSpace spaces
+a-blank = refl
+
+pub blank-space : (s : List ℕ) (at b : ℕ) → Byte s at b → b ≡ 0x20 → blank s at ≡ 1
+blank-space s at b g e = rw (blank-ascii s at b g (omega arith), e, a-blank)
+
+three : (x y z : Bool) → cond x (cond y false (not z)) false ≡ true → (x ≡ true) × (y ≡ false) × (z ≡ false)
+three true false false e = (refl, refl, refl)
+three true false true e = absurd (let z : _≡_ {A = ℕ} 0 1 = cc in omega arith)
+three true true z e = absurd (let z : _≡_ {A = ℕ} 0 1 = cc in omega arith)
+three false y z e = absurd (let z : _≡_ {A = ℕ} 0 1 = cc in omega arith)
+
+pub bare-not : (s : List ℕ) (at b : ℕ) → Byte s at b → bare b ≡ true → (blank s at ≡ 0) × (byte s at ≡ 0x23 → ⊥)
+unfolding bare
+bare-not s at b g e =
+    let t = three (ltb b 128) (whiteSpace b) (eqb b 0x23) e in
+    (rw (blank-ascii s at b g (ltb-true b 128 (t .0)), t .1), λ h. eqb-false b 0x23 (t .2) (g .is ∙ h))
 
 module _ (s : List ℕ) (at b : ℕ) (g : Byte s at b) where
   pub no-space : (low n : ℕ) → every (λ c. Bool·beq false (whiteSpace c)) low n ≡ true → low ≤ b → b < low + n → b < 128 → at ≤ length s → (0 ≡ blank s at) × (at + 0 ≤ length s)

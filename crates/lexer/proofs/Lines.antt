@@ -3,13 +3,16 @@ use mathlib.Core.Path.{_≡_, refl, sym, ap, _∙_}
 use mathlib.Core.Bool.{Bool, true, false, cond, not}
 use mathlib.Core.List.{List}
 use Prim.Native.Nat.{ℕ, zero, suc, _+_, _-_, _%_, _≤_, _<_, min}
+use native.Mathlib.Nat.{add-zero, add-suc}
+use native.Mathlib.Numerals.{add-one}
 use native.Mathlib.Omega.{arith}
 use lib.ListN.{length, getD}
 use lib.Dec.{eqb}
 use borrow.Author.Tests.{eq-eqb, ne-eqb}
 use Rattle.lexer.specs.Scan.{byte, past}
 use Rattle.lexer.specs.Space.{inLine, lessCR, slashes, goesOn, nextLine}
-use Rattle.lexer.specs.Meets.{Reaches}
+use Rattle.lexer.specs.Meets.{Reaches, counts, Going}
+use Rattle.lexer.proofs.Past.{more}
 
 pub in-line : (b : ℕ) → (b ≡ 0x0A → ⊥) → inLine b ≡ true
 unfolding inLine
@@ -18,6 +21,28 @@ in-line b n = simp (ne-eqb b 0x0A n)
 pub at-newline : (b : ℕ) → b ≡ 0x0A → inLine b ≡ false
 unfolding inLine
 at-newline b h = simp (eq-eqb b 0x0A h)
+
+-- ---- blocks without a newline
+
+none : (b : Bool) → _≡_ {A = ℕ} (cond b 1 0) 0 → not b ≡ true
+none false e = refl
+none true e = absurd (omega arith)
+
+no-newline : (b : ℕ) → _≡_ {A = ℕ} (cond (eqb b 0x0A) 1 0) 0 → inLine b ≡ true
+unfolding inLine
+no-newline b e = none (eqb b 0x0A) e
+
+going-counts : (s : List ℕ) (at i n : ℕ) → Going inLine s at i → i + n ≤ length s → counts 0x0A s i n ≡ 0 → Going inLine s at (i + n)
+unfolding counts
+going-counts s at i zero g h e = rw add-zero g
+going-counts s at i (suc n) g h e =
+    rw (add-suc, ← add-one)
+    (more inLine s at (i + n) (going-counts s at i n g (omega arith) (omega arith)) (omega arith) (no-newline (byte s (i + n)) (omega arith)))
+
+pub going-block : (s : List ℕ) (at i n r : ℕ) → Going inLine s at i → i + n ≤ length s → r ≡ counts 0x0A s i n → r ≡ 0 → Going inLine s at (i + n)
+going-block s at i n r g h e z = going-counts s at i n g h (cc)
+
+-- ---- the end of a line
 
 module _ (s : List ℕ) (at end : ℕ) where
   pub cr : at < end → getD s (end - 1) 0 ≡ 0x0D → (end - 1 ≡ at + lessCR s at (end - at)) × (at ≤ end - 1) × (end - 1 ≤ end)

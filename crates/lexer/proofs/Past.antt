@@ -11,7 +11,7 @@ use lib.Seq.{drop-cons}
 use lib.Dec.{ltb}
 use borrow.Author.Tests.{ltb-true, ltb-false}
 use Rattle.lexer.specs.Scan.{byte, run, past}
-use Rattle.lexer.specs.Meets.{Reaches}
+use Rattle.lexer.specs.Meets.{Reaches, Going}
 
 module _ (p : ℕ → Bool) (s : List ℕ) where
   pub past-more : (i : ℕ) → i < length s → p (byte s i) ≡ true → past p s i ≡ past p s (i + 1)
@@ -51,20 +51,14 @@ module _ (p : ℕ → Bool) (s : List ℕ) where
   unfolding past
   past-high i h = omega (arith, run-short (drop i s), length-drop i s)
 
-  -- at the head of a loop over the run
-  pub record Going (at i : ℕ) : Type 0 where
-    pub is : past p s i ≡ past p s at
-    pub low : at ≤ i
-    pub high : i ≤ length s
-
-  pub start : (at : ℕ) → at ≤ length s → Going at at
+  pub start : (at : ℕ) → at ≤ length s → Going p s at at
   start at h = record { is = refl; low = omega arith; high = h }
 
-  pub more : (at i : ℕ) → Going at i → i < length s → p (byte s i) ≡ true → Going at (i + 1)
+  pub more : (at i : ℕ) → Going p s at i → i < length s → p (byte s i) ≡ true → Going p s at (i + 1)
   more at i g h e = record { is = sym (past-more i h e) ∙ g .is; low = omega (arith, g .low); high = omega arith }
 
-  pub stop : (at i : ℕ) → Going at i → i < length s → p (byte s i) ≡ false → Reaches (past p s at) s at i
+  pub stop : (at i : ℕ) → Going p s at i → i < length s → p (byte s i) ≡ false → Reaches (past p s at) s at i
   stop at i g h e = record { is = sym (past-stop i h e) ∙ g .is; low = g .low; high = g .high }
 
-  pub all : (at i : ℕ) → Going at i → length s ≤ i → Reaches (past p s at) s at i
+  pub all : (at i : ℕ) → Going p s at i → length s ≤ i → Reaches (past p s at) s at i
   all at i g h = record { is = sym (past-end i h) ∙ g .is; low = g .low; high = g .high }

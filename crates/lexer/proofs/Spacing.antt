@@ -2,21 +2,19 @@
 use mathlib.Core.Path.{_≡_, refl, sym, ap, _∙_}
 use mathlib.Core.Bool.{Bool, true, false}
 use mathlib.Core.List.{List}
-use Prim.Native.Nat.{ℕ, suc, _+_, _-_, _≤_, _<_, min}
+use Prim.Native.Nat.{ℕ, zero, suc, _+_, _-_, _≤_, _<_, min}
+use native.Mathlib.Nat.{add-zero, add-suc}
+use native.Mathlib.Numerals.{add-one}
 use native.Mathlib.Omega.{arith}
 use lib.ListN.{length}
 use Rattle.lexer.specs.Scan.{byte, past}
 use Rattle.lexer.specs.Space.{blank, inLine, goesOn, nextLine, comment, space}
-use Rattle.lexer.specs.Meets.{Byte, Reaches}
+use Rattle.lexer.specs.Meets.{Byte, Reaches, Spacing, bare, counts}
+use Rattle.lexer.proofs.Counts.{counts-all}
+use Rattle.lexer.proofs.Blanks.{blank-space, bare-not}
 use Rattle.lexer.proofs.Skips.{on-some, comment-on, comment-off, space-blank, space-comment, space-stop}
 
--- what is space from here on is space from the start on
-pub record Spacing (s : List ℕ) (from at : ℕ) : Type 0 where
-  pub is : space s at ≡ space s from
-  pub low : from ≤ at
-  pub high : at ≤ length s
-
--- the same in a comment whose first line starts at first, at the start of one of its lines
+-- what is space from here on is space from the start on, in a comment whose first line starts at first, at the start of one of its lines
 pub record Commenting (s : List ℕ) (from first at : ℕ) : Type 0 where
   pub is : space s (comment (suc (length s)) s at) ≡ space s from
   pub low : from ≤ at
@@ -26,6 +24,36 @@ pub record Commenting (s : List ℕ) (from first at : ℕ) : Type 0 where
 module _ (s : List ℕ) (from : ℕ) where
   pub begin : from ≤ length s → Spacing s from from
   begin h = record { is = refl; low = omega arith; high = h }
+
+  pub one-space : (at b : ℕ) → Spacing s from at → Byte s at b → b ≡ 0x20 → Spacing s from (at + 1)
+  one-space at b g i e =
+      let n = blank-space s at b i e in
+      record {
+        is = rw (← n) (sym (space-blank s at (g .high) (omega (arith, n))) ∙ g .is);
+        low = omega (arith, g .low);
+        high = omega (arith, i .within);
+      }
+
+  pub space-more : (at : ℕ) → Spacing s from at → at < length s → byte s at ≡ 0x20 → Spacing s from (at + 1)
+  space-more at g h e = one-space at (byte s at) g (record { is = refl; within = omega arith }) e
+
+  spaces-more : (i n : ℕ) → Spacing s from i → i + n ≤ length s → counts 0x20 s i n ≡ n → Spacing s from (i + n)
+  spaces-more i zero g h e = rw add-zero g
+  spaces-more i (suc n) g h e =
+      let a = counts-all 0x20 s i n e in
+      rw (add-suc, ← add-one) (space-more (i + n) (spaces-more i n g (omega arith) (a .0)) (omega arith) (a .1))
+
+  pub spaces-block : (i n r : ℕ) → Spacing s from i → i + n ≤ length s → r ≡ counts 0x20 s i n → r ≡ n → Spacing s from (i + n)
+  spaces-block i n r g h e z = spaces-more i n g h (sym e ∙ z)
+
+  pub on : (i at : ℕ) → Spacing s from i → Spacing s i at → Spacing s from at
+  on i at g h = record { is = h .is ∙ g .is; low = omega (arith, g .low, h .low); high = h .high }
+
+  -- where nothing is to be skipped
+  pub halt : (at b : ℕ) → Spacing s from at → Byte s at b → bare b ≡ true → Reaches (space s from) s from at
+  halt at b g i e =
+      let n = bare-not s at b i e in
+      record { is = sym (space-stop s at (n .0) (n .1)) ∙ g .is; low = g .low; high = g .high }
 
   pub one-blank : (at n : ℕ) → Spacing s from at → (n ≡ blank s at) × (at + n ≤ length s) → 0 < n → Spacing s from (at + n)
   one-blank at n g b h = record {

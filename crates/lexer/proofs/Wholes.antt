@@ -1,5 +1,5 @@
 -- The whole source: editions, top tokens, and what follows them. Assumes nothing.
-use mathlib.Core.Path.{_≡_, refl, sym, ap, _∙_}
+use mathlib.Core.Path.{_≡_, refl, sym, ap, _∙_, subst}
 use mathlib.Core.List.{List, [], _∷_, _++_}
 use Prim.Native.Nat.{ℕ, zero, suc, _+_, _-_, _*_, _≤_, _<_}
 use native.Mathlib.Omega.{arith}
@@ -14,8 +14,9 @@ use Rattle.lexer.specs.Listing.{edition, tokensBytes, errorsBytes, error
 use Rattle.lexer.specs.Space.{space}
 use Rattle.lexer.specs.Lex.{tokens, rest, whole}
 use Rattle.lexer.specs.Meets.{Put, Erred, Is, Ready, Lexes, Reaches}
-use Rattle.lexer.specs.Due.{deepness, tokensDue, errorsDue, Rests, Listed}
+use Rattle.lexer.specs.Due.{deepness, tokensDue, errorsDue, Begun, Rests, Listed}
 use Rattle.lexer.specs.declared.scan.State.{State}
+use Rattle.lexer.proofs.Facts.Blanks.{space-again}
 use Rattle.lexer.proofs.Puts.{put-then}
 use Rattle.lexer.proofs.Readings.{is-nothing, is-wrong, is-then, is-stop}
 
@@ -60,22 +61,29 @@ listed-from (read at ts es) o e d d₁ d₂ x x₁ x₂ r a b i m n = record {
   faults = n;
 }
 
-module _ (s d d₁ d₂ x x₁ x₂ : List ℕ) (o e : ℕ) (h : length s ≤ 32768)
+-- tokens are found behind leading space as they are from the start on
+behind-lead : (k : ℕ) (s : List ℕ) (n from : ℕ) → from ≡ space s 0 → tokens (suc k) s n from ≡ tokens (suc k) s n 0
+unfolding tokens
+behind-lead k s n from e = rw (e, space-again s 0 (omega arith))
+
+module _ (s d d₁ d₂ x x₁ x₂ : List ℕ) (o e from : ℕ) (h : Begun s from)
     (eo : o ≡ 0 + 4) (ed : d₁ ≡ overlay d 0 (0 ∷ 1 ∷ 0 ∷ 1 ∷ [])) (ee : e ≡ 0 + 4) (ex : x₁ ≡ overlay x 0 (0 ∷ 1 ∷ 0 ∷ 1 ∷ [])) (p : State)
-    (l : Lexes (λ k. tokens k s 128 0) (3 * (length s - 0) + 3) s 0 0 (record { at = 0; tokens = o; errors = e; deep = 0 }) d₁ d₂ x₁ x₂ p) where
+    (l : Lexes (λ k. tokens k s 128 from) (3 * (length s - from) + 3) s 0 0 (record { at = from; tokens = o; errors = e; deep = 0 }) d₁ d₂ x₁ x₂ p) where
   top : Is (tokens (3 * length s + 4) s 128 0) o e d₁ d₂ x₁ x₂ p
-  top = l .is (3 * length s + 4) (omega arith)
+  top =
+      let u : 3 * length s + 4 ≡ suc (3 * length s + 3) = omega arith in
+      rw u (subst (λ (q : Read). Is q o e d₁ d₂ x₁ x₂ p) (behind-lead (3 * length s + 3) s 128 from (h .lead .is)) (l .is (suc (3 * length s + 3)) (omega arith)))
 
   -- nesting is refused
   pub whole-stops : (p .deep ≡ 0 → ⊥) → Listed (whole s) d d₂ x x₂ p
   unfolding whole
   whole-stops n =
       listed-from _ o e d d₁ d₂ x x₁ x₂ p (opened d d₁ o eo ed) (opened x x₁ e ee ex) (is-stop _ _ o e d₁ d₂ x₁ x₂ p top n)
-      (omega (arith, l .paid .tokens, l .paid .high)) (omega (arith, l .paid .errors, l .paid .high))
+      (omega (arith, h .few, l .paid .tokens, l .paid .high)) (omega (arith, h .few, l .paid .errors, l .paid .high))
 
   -- the source is read to its end
   pub whole-reads : p .deep ≡ 0 → (x₃ : List ℕ) (r : State) → Rests s p x₂ x₃ r → Listed (whole s) d d₂ x x₃ r
   unfolding whole
   whole-reads z x₃ r t =
       listed-from _ o e d d₁ d₂ x x₁ x₃ r (opened d d₁ o eo ed) (opened x x₁ e ee ex) (is-then _ _ o e d₁ d₂ d₂ x₁ x₂ x₃ p r top z (t .is d₂))
-      (omega (arith, t .tokens, l .paid .tokens, l .paid .high)) (omega (arith, t .errors, l .paid .errors, l .paid .high))
+      (omega (arith, h .few, t .tokens, l .paid .tokens, l .paid .high)) (omega (arith, h .few, t .errors, l .paid .errors, l .paid .high))

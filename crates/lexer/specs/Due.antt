@@ -10,7 +10,7 @@ use Rattle.lexer.specs.Listing.{edition, tokensBytes, errorsBytes}
 use Rattle.lexer.specs.Space.{space}
 use Rattle.lexer.specs.Lex.{rest, whole}
 use Rattle.lexer.specs.Lexing.{listed, lexing}
-use Rattle.lexer.specs.Meets.{Put, Is}
+use Rattle.lexer.specs.Meets.{Put, Is, Reaches}
 use Rattle.lexer.specs.declared.scan.State.{State}
 
 -- 0 where nesting is within what is allowed, else one more than the place of the opener that is too many
@@ -26,6 +26,11 @@ tokensDue (deep p) = []
 abbrev pub errorsDue : Read → List ℕ
 errorsDue (read at ts es) = edition ++ errorsBytes 2 es
 errorsDue (deep p) = []
+
+-- a source that is not too long, and the place behind its leading space
+pub record Begun (s : List ℕ) (from : ℕ) : Type 0 where
+  pub few : length s ≤ 32768
+  pub lead : Reaches (space s 0) s 0 from
 
 -- what follows the top tokens, from where the state p stands
 pub record Rests (s : List ℕ) (p : State) (x x′ : List ℕ) (r : State) : Type 0 where

@@ -1,13 +1,16 @@
 -- What the functions of the crate promise to one another: the value that a definition says, with the bounds that a caller needs.
 use mathlib.Core.Path.{_≡_}
+use mathlib.Core.Bool.{Bool, false, cond, not}
 use mathlib.Core.List.{List, [], _∷_}
-use Prim.Native.Nat.{ℕ, suc, _+_, _-_, _*_, _≤_, _<_, min}
+use Prim.Native.Nat.{ℕ, zero, suc, _+_, _-_, _*_, _≤_, _<_, min}
 use lib.ListN.{length}
-use lib.Dec.{ltb}
+use lib.Dec.{ltb, eqb}
+use Rattle.text.specs.Space.{whiteSpace}
 use Rattle.fields.specs.Field.{field}
 use Rattle.fields.specs.Room.{overlay}
 use Rattle.lexer.specs.Token.{Tokens, char, Error, Expect, missing}
 use Rattle.lexer.specs.Scan.{byte, past, Scan}
+use Rattle.lexer.specs.Space.{space}
 use Rattle.lexer.specs.Escape.{hexDigit, hex, hexes}
 use Rattle.lexer.specs.Listing.{pair, errorTag, opener, tokensBytes, errorsBytes}
 use Rattle.lexer.specs.Read.{Read, read, deep, found, wrong}
@@ -20,6 +23,27 @@ use Rattle.lexer.specs.declared.escape.Code.{Code}
 pub record Byte (s : List ℕ) (at r : ℕ) : Type 0 where
   pub is : r ≡ byte s at
   pub within : at + 1 ≤ length s + (1 - r)
+
+-- an ASCII byte that starts neither white space nor a comment
+unfoldable pub bare : ℕ → Bool
+bare b = cond (ltb b 128) (cond (whiteSpace b) false (not (eqb b 0x23))) false
+
+-- how many of the n bytes from a place on are x
+unfoldable pub counts : ℕ → List ℕ → ℕ → ℕ → ℕ
+counts x s at zero = 0
+counts x s at (suc n) = counts x s at n + cond (eqb (byte s (at + n)) x) 1 0
+
+-- a place on the way along a run: what passes from there on ends where what passes from the start on ends
+pub record Going (p : ℕ → Bool) (s : List ℕ) (at i : ℕ) : Type 0 where
+  pub is : past p s i ≡ past p s at
+  pub low : at ≤ i
+  pub high : i ≤ length s
+
+-- the same in white space and comments
+pub record Spacing (s : List ℕ) (from at : ℕ) : Type 0 where
+  pub is : space s at ≡ space s from
+  pub low : from ≤ at
+  pub high : at ≤ length s
 
 -- a place that was reached from another
 pub record Reaches (to : ℕ) (s : List ℕ) (from r : ℕ) : Type 0 where

@@ -9,7 +9,7 @@ use crate::put::put_text;
 use crate::scan::Scanned;
 use crate::scan::State;
 use crate::scan::byte_at;
-use crate::space::space;
+use crate::space::skip;
 use crate::sym::sym;
 use crate::word::ident1;
 use crate::word::mod_then_ident;
@@ -163,7 +163,7 @@ pub fn tokens(s: &[u8], n: usize, st: State, out: &mut [u8], err: &mut [u8]) -> 
 {
     let mut p = st;
     loop {
-        let at = space(s, p.at);
+        let at = skip(s, p.at);
         let here = State {
             at: at,
             tokens: p.tokens,
@@ -220,7 +220,7 @@ fn block(s: &[u8], n: usize, st: State, out: &mut [u8], err: &mut [u8]) -> State
         return p;
     }
     let end = State {
-        at: space(s, p.at),
+        at: skip(s, p.at),
         tokens: p.tokens,
         errors: p.errors,
         deep: 0,

@@ -25,20 +25,20 @@ ghost use lib.ListN.{length, take};
 ghost use Rattle.lexer.specs.Lex.{whole};
 ghost use Rattle.lexer.specs.Lexing.{listed};
 ghost use Rattle.lexer.specs.Meets.{Ready};
-ghost use Rattle.lexer.specs.Due.{deepness, tokensDue, errorsDue, refusedAs, Rests, Listed, Told, Lexed};
+ghost use Rattle.lexer.specs.Due.{deepness, tokensDue, errorsDue, refusedAs, Begun, Rests, Listed, Told, Lexed};
 use fields::Answer;
 use scan::State;
 
-// The whole source: its tokens into one room, what is wrong with it into the other.
-fn whole(s: &[u8], out: &mut [u8], err: &mut [u8]) -> State
-    requires { ⌜ length (now s) ≤ 32768 ⌝ }
+// The whole source, from behind its leading space on: its tokens into one room, what is wrong with it into the other.
+fn whole(s: &[u8], from: usize, out: &mut [u8], err: &mut [u8]) -> State
+    requires { ⌜ Begun (now s) from ⌝ }
     ensures { λ r. ⌜ Listed (whole (now (s .entry))) (now (out .entry)) (now (out .exit)) (now (err .entry)) (now (err .exit)) r ⌝ }
 {
     let edition = [0, 1, 0, 1];
     let o = fields::put(out, 0, &edition);
     let e = fields::put(err, 0, &edition);
     let top = State {
-        at: 0,
+        at: from,
         tokens: o,
         errors: e,
         deep: 0,
@@ -83,15 +83,15 @@ fn refused(number: u8, place: usize) -> Answer
 }
 
 // The listing of what is wrong, which takes so many bytes, into the room lent.
-fn list_errors(source: &[u8], size: usize, out: &mut [u8]) -> Answer
-    requires { ⌜ (length (now source) ≤ 32768) × (deepness (whole (now source)) ≡ 0) × (size ≡ length (errorsDue (whole (now source)))) × (4 < size) × (size ≤ 1048576) ⌝ }
+fn list_errors(source: &[u8], from: usize, size: usize, out: &mut [u8]) -> Answer
+    requires { ⌜ Begun (now source) from × (deepness (whole (now source)) ≡ 0) × (size ≡ length (errorsDue (whole (now source)))) × (4 < size) × (size ≤ 1048576) ⌝ }
     ensures { λ r. ⌜ Told (listed 2 (whole (now (source .entry)))) (now (out .entry)) (now (out .exit)) r ⌝ }
 {
     if size > out.len() {
         return refused(7, 0);
     }
     let mut none = [0u8; 1];
-    whole(source, &mut none[..0], out);
+    whole(source, from, &mut none[..0], out);
     Answer {
         number: 1,
         length: size,
@@ -100,8 +100,14 @@ fn list_errors(source: &[u8], size: usize, out: &mut [u8]) -> Answer
 }
 
 // The listing of the tokens, which takes so many bytes, into the room lent: out of the scratch, if it went in whole.
-fn list_tokens(source: &[u8], size: usize, scratch: &mut [u8], out: &mut [u8]) -> Answer
-    requires { ⌜ (length (now source) ≤ 32768) × (deepness (whole (now source)) ≡ 0) × (length (errorsDue (whole (now source))) ≤ 4) × (size ≡ length (tokensDue (whole (now source)))) × (size ≤ 1048576) × (size ≤ length (now scratch) → take size (now scratch) ≡ tokensDue (whole (now source))) ⌝ }
+fn list_tokens(
+    source: &[u8],
+    from: usize,
+    size: usize,
+    scratch: &mut [u8],
+    out: &mut [u8],
+) -> Answer
+    requires { ⌜ Begun (now source) from × (deepness (whole (now source)) ≡ 0) × (length (errorsDue (whole (now source))) ≤ 4) × (size ≡ length (tokensDue (whole (now source)))) × (size ≤ 1048576) × (size ≤ length (now scratch) → take size (now scratch) ≡ tokensDue (whole (now source))) ⌝ }
     ensures { λ r. ⌜ Told (listed 2 (whole (now (source .entry)))) (now (out .entry)) (now (out .exit)) r ⌝ }
 {
     if size > out.len() {
@@ -117,49 +123,83 @@ fn list_tokens(source: &[u8], size: usize, scratch: &mut [u8], out: &mut [u8]) -
         return done;
     }
     let mut none = [0u8; 1];
-    whole(source, out, &mut none[..0]);
+    whole(source, from, out, &mut none[..0]);
     done
 }
 
 // By way of scratch of any size.
-fn through(source: &[u8], scratch: &mut [u8], out: &mut [u8]) -> Answer
-    requires { ⌜ length (now source) ≤ 32768 ⌝ }
+fn through(source: &[u8], from: usize, scratch: &mut [u8], out: &mut [u8]) -> Answer
+    requires { ⌜ Begun (now source) from ⌝ }
     ensures { λ r. ⌜ Told (listed 2 (whole (now (source .entry)))) (now (out .entry)) (now (out .exit)) r ⌝ }
 {
     let mut none = [0u8; 1];
-    let p = whole(source, scratch, &mut none[..0]);
+    let p = whole(source, from, scratch, &mut none[..0]);
     if p.deep != 0 {
         return refused(4, p.deep - 1);
     }
     if p.errors > 4 {
-        return list_errors(source, p.errors, out);
+        return list_errors(source, from, p.errors, out);
     }
-    list_tokens(source, p.tokens, scratch, out)
+    list_tokens(source, from, p.tokens, scratch, out)
 }
 
-// Scratch costs its clearing, so that a short source gets little of it.
-fn small(source: &[u8], out: &mut [u8]) -> Answer
-    requires { ⌜ length (now source) ≤ 32768 ⌝ }
+// Scratch costs its clearing, so that there are several sizes of it.
+fn medium(source: &[u8], from: usize, out: &mut [u8]) -> Answer
+    requires { ⌜ Begun (now source) from ⌝ }
     ensures { λ r. ⌜ Told (listed 2 (whole (now (source .entry)))) (now (out .entry)) (now (out .exit)) r ⌝ }
 {
-    let mut scratch = [0u8; 2048];
-    through(source, &mut scratch, out)
+    let mut scratch = [0u8; 8192];
+    through(source, from, &mut scratch, out)
 }
 
-fn middle(source: &[u8], out: &mut [u8]) -> Answer
-    requires { ⌜ length (now source) ≤ 32768 ⌝ }
+fn middle(source: &[u8], from: usize, out: &mut [u8]) -> Answer
+    requires { ⌜ Begun (now source) from ⌝ }
     ensures { λ r. ⌜ Told (listed 2 (whole (now (source .entry)))) (now (out .entry)) (now (out .exit)) r ⌝ }
 {
     let mut scratch = [0u8; 32768];
-    through(source, &mut scratch, out)
+    through(source, from, &mut scratch, out)
 }
 
-fn large(source: &[u8], out: &mut [u8]) -> Answer
-    requires { ⌜ length (now source) ≤ 32768 ⌝ }
+fn large(source: &[u8], from: usize, out: &mut [u8]) -> Answer
+    requires { ⌜ Begun (now source) from ⌝ }
+    ensures { λ r. ⌜ Told (listed 2 (whole (now (source .entry)))) (now (out .entry)) (now (out .exit)) r ⌝ }
+{
+    let mut scratch = [0u8; 131072];
+    through(source, from, &mut scratch, out)
+}
+
+fn largest(source: &[u8], from: usize, out: &mut [u8]) -> Answer
+    requires { ⌜ Begun (now source) from ⌝ }
     ensures { λ r. ⌜ Told (listed 2 (whole (now (source .entry)))) (now (out .entry)) (now (out .exit)) r ⌝ }
 {
     let mut scratch = [0u8; 262144];
-    through(source, &mut scratch, out)
+    through(source, from, &mut scratch, out)
+}
+
+// By way of the scratch lent, if that has eight bytes for each byte that is left, or else of more. What calls itself is
+// compiled by itself, and so are those with large frames that it calls: a short source pays for none of them.
+fn fitting(source: &[u8], from: usize, scratch: &mut [u8], out: &mut [u8]) -> Answer
+    requires { ⌜ Begun (now source) from ⌝ }
+    ensures { λ r. ⌜ Told (listed 2 (whole (now (source .entry)))) (now (out .entry)) (now (out .exit)) r ⌝ }
+{
+    let n = source.len() - from;
+    if n * 8 <= scratch.len() {
+        return through(source, from, scratch, out);
+    }
+    if n <= 256 {
+        let mut small = [0u8; 2048];
+        return fitting(source, from, &mut small, out);
+    }
+    if n <= 1024 {
+        return medium(source, from, out);
+    }
+    if n <= 4096 {
+        return middle(source, from, out);
+    }
+    if n <= 16384 {
+        return large(source, from, out);
+    }
+    largest(source, from, out)
 }
 
 // The tokens of a source, or what is wrong with it, listed in the room lent.
@@ -174,11 +214,7 @@ pub fn lex(source: &[u8], out: &mut [u8]) -> Answer
     if valid < n {
         return refused(3, valid);
     }
-    if n <= 256 {
-        return small(source, out);
-    }
-    if n <= 4096 {
-        return middle(source, out);
-    }
-    large(source, out)
+    let from = space::skip(source, 0);
+    let mut scratch = [0u8; 256];
+    fitting(source, from, &mut scratch, out)
 }

@@ -1,11 +1,13 @@
 // White space and comments.
 use crate::scan::byte_at;
 ghost use mathlib.Core.Path.{_≡_};
+ghost use mathlib.Core.Bool.{cond};
 ghost use Prim.Native.Nat.{_+_, _-_, _≤_, min};
 ghost use lib.ListN.{length};
+ghost use lib.Dec.{eqb};
 ghost use Rattle.lexer.specs.Scan.{past};
 ghost use Rattle.lexer.specs.Space.{blank, inLine, lessCR, goesOn, nextLine, space};
-ghost use Rattle.lexer.specs.Meets.{Reaches};
+ghost use Rattle.lexer.specs.Meets.{bare, counts, Reaches, Going, Spacing};
 
 // How many bytes the white space character at a place has. One of ASCII is told by its byte.
 fn blank(s: &[u8], at: usize) -> usize
@@ -35,12 +37,65 @@ fn blank(s: &[u8], at: usize) -> usize
     0
 }
 
+// 1 where two bytes are the same.
+fn same(b: u8, x: u8) -> u8
+    ensures { λ r. ⌜ (r ≡ cond (eqb b x) 1 0) × (r ≤ 1) ⌝ }
+{
+    if b == x {
+        return 1;
+    }
+    0
+}
+
+// How many of the 128 bytes from a place on are newlines: a loop with no way out, which compiles to a few wide instructions.
+fn newlines(s: &[u8], at: usize) -> u8
+    requires { ⌜ at + 128 ≤ length (now s) ⌝ }
+    ensures { λ r. ⌜ r ≡ counts 0x0A (now (s .entry)) at 128 ⌝ }
+{
+    let mut n: u8 = 0;
+    let mut k: usize = 0;
+    while k < 128 {
+        n += same(s[at + k], 0x0A);
+        k += 1;
+    }
+    n
+}
+
+// How many of the 16 bytes from a place on are spaces, in the same way. White space is mostly short, and so are these blocks.
+fn blanks(s: &[u8], at: usize) -> u8
+    requires { ⌜ at + 16 ≤ length (now s) ⌝ }
+    ensures { λ r. ⌜ r ≡ counts 0x20 (now (s .entry)) at 16 ⌝ }
+{
+    let mut n: u8 = 0;
+    let mut k: usize = 0;
+    while k < 16 {
+        n += same(s[at + k], 0x20);
+        k += 1;
+    }
+    n
+}
+
+// The place behind the blocks of 128 bytes without a newline that start at a place.
+fn long_line(s: &[u8], at: usize) -> usize
+    requires { ⌜ at ≤ length (now s) ⌝ }
+    ensures { λ r. ⌜ Going inLine (now (s .entry)) at r ⌝ }
+{
+    let mut i = at;
+    while 128 <= s.len() - i {
+        if newlines(s, i) != 0 {
+            return i;
+        }
+        i += 128;
+    }
+    i
+}
+
 // The end of the line at a place.
 fn line_end(s: &[u8], at: usize) -> usize
     requires { ⌜ at ≤ length (now s) ⌝ }
     ensures { λ r. ⌜ Reaches (past inLine (now (s .entry)) at) (now (s .entry)) at r ⌝ }
 {
-    let mut i = at;
+    let mut i = long_line(s, at);
     while i < s.len() {
         if s[i] == 0x0A {
             return i;
@@ -90,6 +145,36 @@ fn next_line(s: &[u8], end: usize) -> usize
     s.len()
 }
 
+// The place behind the blocks of 16 spaces that start at a place.
+fn long_space(s: &[u8], at: usize) -> usize
+    requires { ⌜ at ≤ length (now s) ⌝ }
+    ensures { λ r. ⌜ Spacing (now (s .entry)) at r ⌝ }
+{
+    let mut i = at;
+    while 16 <= s.len() - i {
+        if blanks(s, i) != 16 {
+            return i;
+        }
+        i += 16;
+    }
+    i
+}
+
+// The place behind the spaces that start at a place.
+fn spaces(s: &[u8], at: usize) -> usize
+    requires { ⌜ at ≤ length (now s) ⌝ }
+    ensures { λ r. ⌜ Spacing (now (s .entry)) at r ⌝ }
+{
+    let mut i = long_space(s, at);
+    while i < s.len() {
+        if s[i] != 0x20 {
+            return i;
+        }
+        i += 1;
+    }
+    i
+}
+
 // White space and comments from a place on. A comment is left with the first line that does not go on.
 pub fn space(s: &[u8], from: usize) -> usize
     requires { ⌜ from ≤ length (now s) ⌝ }
@@ -97,6 +182,7 @@ pub fn space(s: &[u8], from: usize) -> usize
 {
     let mut at = from;
     'space: loop {
+        at = spaces(s, at);
         let n = blank(s, at);
         if n > 0 {
             at += n;
@@ -116,4 +202,37 @@ pub fn space(s: &[u8], from: usize) -> usize
         }
     }
     at
+}
+
+// Whether a byte is ASCII and starts neither white space nor a comment. (0 stands at the end.)
+fn bare(b: u8) -> bool
+    ensures { λ r. ⌜ r ≡ bare b ⌝ }
+{
+    if b >= 0x80 {
+        return false;
+    }
+    if b > 0x20 {
+        return b != 0x23;
+    }
+    if b > 0x0D {
+        return b != 0x20;
+    }
+    b < 0x09
+}
+
+// The same as `space`, short enough to stand in its callers: between tokens there is mostly nothing, or one space.
+pub fn skip(s: &[u8], from: usize) -> usize
+    requires { ⌜ from ≤ length (now s) ⌝ }
+    ensures { λ r. ⌜ Reaches (space (now (s .entry)) from) (now (s .entry)) from r ⌝ }
+{
+    let b = byte_at(s, from);
+    if bare(b) {
+        return from;
+    }
+    if b == 0x20 {
+        if bare(byte_at(s, from + 1)) {
+            return from + 1;
+        }
+    }
+    space(s, from)
 }

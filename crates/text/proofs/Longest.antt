@@ -6,7 +6,7 @@ use Prim.Native.Nat.{ℕ, zero, suc, _+_, _/_, _≤_, _<_}
 use native.Mathlib.Nat.{add-zero, add-suc}
 use native.Mathlib.Numerals.{add-one}
 use native.Mathlib.Omega.{arith}
-use lib.ListN.{length, take, drop, getD, length-drop, take-append-drop}
+use lib.ListN.{length, take, drop, getD, length-drop, take-append-drop, drop-of-length-le}
 use lib.Seq.{take-add, drop-at, length-take-le, drop-append-le, drop-drop, take-length}
 use Rattle.text.specs.Utf8.{seqLen}
 use Rattle.text.specs.Valid.{Valid, none, more, oneOf, passing, validPrefix, Longest}
@@ -159,3 +159,7 @@ along-more s at i n r a e z b =
 
 pub along-stop : (s : List ℕ) (i n : ℕ) → Along s 0 i → n ≡ seqLen (drop i s) → n ≡ 0 → i ≡ validPrefix s
 along-stop s i n a e z = let q : validPrefix (drop i s) ≡ 0 = prefix-stops s i (cc) in omega (arith, a .same)
+
+pub along-end : (s : List ℕ) (i : ℕ) → Along s 0 i → length s ≤ i → i ≡ validPrefix s
+unfolding seqLen
+along-end s i a h = along-stop s i 0 a (rw (drop-of-length-le s h)) refl

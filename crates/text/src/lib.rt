@@ -84,30 +84,30 @@ fn seq_len(s: &[u8], at: usize) -> usize
     }
 }
 
-// How many of the 64 bytes from `at` on are not ASCII: a loop with no way out, which compiles to a few wide instructions.
+// How many of the 128 bytes from `at` on are not ASCII: a loop with no way out, which compiles to a few wide instructions.
 fn high(s: &[u8], at: usize) -> u8
-    requires { ⌜ at + 64 ≤ length (now s) ⌝ }
-    ensures { λ r. ⌜ r ≡ highs (now (s .entry)) at 64 ⌝ }
+    requires { ⌜ at + 128 ≤ length (now s) ⌝ }
+    ensures { λ r. ⌜ r ≡ highs (now (s .entry)) at 128 ⌝ }
 {
     let mut n: u8 = 0;
     let mut k: usize = 0;
-    while k < 64 {
+    while k < 128 {
         n += s[at + k] / 128;
         k += 1;
     }
     n
 }
 
-// The place after the blocks of 64 ASCII characters that the text begins with.
+// The place after the blocks of 128 ASCII characters that the text begins with.
 fn skip(s: &[u8]) -> usize
     ensures { λ r. ⌜ Along (now (s .entry)) 0 r ⌝ }
 {
     let mut i = 0;
-    while 64 <= s.len() - i {
+    while 128 <= s.len() - i {
         if high(s, i) != 0 {
             return i;
         }
-        i += 64;
+        i += 128;
     }
     i
 }
@@ -132,13 +132,14 @@ pub fn prefix(s: &[u8]) -> usize
     ensures { λ r. ⌜ r ≡ validPrefix (now (s .entry)) ⌝ }
 {
     let mut i = ascii(s, skip(s));
-    loop {
+    while i < s.len() {
         let n = seq_len(s, i);
         if n == 0 {
             return i;
         }
         i = ascii(s, i + n);
     }
+    i
 }
 
 // The last bits of a byte: what it is modulo `m`.

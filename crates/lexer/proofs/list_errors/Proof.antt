@@ -11,33 +11,26 @@ use Rattle.lexer.proofs.list_errors.Lts as lts
 use Rattle.lexer.proofs.refused.Reads as refused-reads
 use Rattle.lexer.proofs.whole.Reads as whole-reads
 
--- src/lib.rt:82:9
 refused-requires : tie.Need-refused-requires
 refused-requires c κs = search needs
 
--- src/lib.rt:82:9
 returns : tie.Need-returns
 returns c =
     let p = c .before .before .before .before .pre in
     rw (c .refused .ensures) (errors-short _ _ (p .1) (omega arith) (omega arith))
 
--- src/lib.rt:85:19
 array-borrow-prefix-none : tie.Need-array-borrow-prefix-none
 array-borrow-prefix-none c = search needs
 
--- src/lib.rt:85:19
 slice-aggregate-whole : tie.Need-slice-aggregate-whole
 slice-aggregate-whole c = search needs
 
--- src/lib.rt:85:5
 whole-requires : tie.Need-whole-requires
 whole-requires c κs = search needs
 
--- src/lib.rt:77:1
 same-length : tie.Need-same-length
 same-length c = search needs
 
--- src/lib.rt:77:1
 returns-2 : tie.Need-returns-2
 returns-2 c =
     let p = c .before .before .before .before .before .before .before .before .before .pre in

@@ -15,39 +15,31 @@ use Rattle.fields.proofs.put.Reads as put-reads
 use Rattle.lexer.proofs.refused.Reads as refused-reads
 use Rattle.lexer.proofs.whole.Reads as whole-reads
 
--- src/lib.rt:99:9
 refused-requires : tie.Need-refused-requires
 refused-requires c κs = search needs
 
--- src/lib.rt:99:9
 returns : tie.Need-returns
 returns c =
     let p = c .before .before .before .before .before .pre in
     rw (c .refused .ensures) (tokens-short _ _ (p .1) (p .2) (omega arith))
 
--- src/lib.rt:107:29
 slice-reshare-prefix-put : tie.Need-slice-reshare-prefix-put
 slice-reshare-prefix-put c = search needs
 
--- src/lib.rt:107:29
 slice-aggregate-put : tie.Need-slice-aggregate-put
 slice-aggregate-put c = sym (length-take-le _ _ (omega arith))
 
--- src/lib.rt:107:9
 put-requires : tie.Need-put-requires
 put-requires c κs =
     let a = c .before .before .before .before .before .before .before .args in
     omega (arith, length-take-le (a .size) (a .scratch .now) (omega arith))
 
--- src/lib.rt:108:9
 same-length : tie.Need-same-length
 same-length c = search needs
 
--- src/lib.rt:108:9
 same-length-2 : tie.Need-same-length-2
 same-length-2 c = search needs
 
--- src/lib.rt:108:9
 returns-2 : tie.Need-returns-2
 returns-2 c =
     let a = c .before .before .before .before .before .before .before .before .before .before .args in
@@ -55,23 +47,18 @@ returns-2 c =
     let l = c .before .before .put .ensures .1 ∙ ap (λ (x : List ℕ). overlay (a .out .now) 0 x) (p .5 (c .before .before .before .before .before .if2 .taken)) in
     tokens-told _ _ (p .1) (p .2) _ _ (p .3) (c .before .before .before .before .before .before .if1 .left) (p .4) l
 
--- src/lib.rt:111:24
 array-borrow-prefix-none : tie.Need-array-borrow-prefix-none
 array-borrow-prefix-none c = search needs
 
--- src/lib.rt:111:24
 slice-aggregate-whole : tie.Need-slice-aggregate-whole
 slice-aggregate-whole c = search needs
 
--- src/lib.rt:111:5
 whole-requires : tie.Need-whole-requires
 whole-requires c κs = search needs
 
--- src/lib.rt:94:1
 same-length-3 : tie.Need-same-length-3
 same-length-3 c = search needs
 
--- src/lib.rt:94:1
 returns-3 : tie.Need-returns-3
 returns-3 c =
     let p = c .before .before .before .before .before .before .before .before .before .before .before .pre in

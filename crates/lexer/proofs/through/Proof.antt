@@ -12,71 +12,56 @@ use Rattle.lexer.proofs.list_tokens.Reads as list-tokens-reads
 use Rattle.lexer.proofs.refused.Reads as refused-reads
 use Rattle.lexer.proofs.whole.Reads as whole-reads
 
--- src/lib.rt:121:36
 array-borrow-prefix-none : tie.Need-array-borrow-prefix-none
 array-borrow-prefix-none c = search needs
 
--- src/lib.rt:121:36
 slice-aggregate-whole : tie.Need-slice-aggregate-whole
 slice-aggregate-whole c = search needs
 
--- src/lib.rt:121:9
 whole-requires : tie.Need-whole-requires
 whole-requires c κs = search needs
 
--- src/lib.rt:123:27
 sub-refused : tie.Need-sub-refused
 sub-refused c = search needs
 
--- src/lib.rt:123:9
 refused-requires : tie.Need-refused-requires
 refused-requires c κs = search needs
 
--- src/lib.rt:123:9
 same-length : tie.Need-same-length
 same-length c = search needs
 
--- src/lib.rt:123:9
 returns : tie.Need-returns
 returns c =
     let w = c .before .before .before .before .before .before .before .whole .ensures in
-    rw (c .refused .ensures) (told-deep _ _ _ (c .before .before .before .before .before .before .before .before .before .before .before .before .before .pre) (w .nesting) (c .before .before .if1 .taken))
+    rw (c .refused .ensures) (told-deep _ _ _ (c .before .before .before .before .before .before .before .before .before .before .before .before .before .pre .few) (w .nesting) (c .before .before .if1 .taken))
 
--- src/lib.rt:126:9
 list-errors-requires : tie.Need-list-errors-requires
 list-errors-requires c κs =
     let w = c .before .before .before .before .before .before .before .before .whole .ensures in
     let z = sym (w .nesting) ∙ c .before .before .before .if1 .left in
     (c .before .before .before .before .before .before .before .before .before .before .before .before .before .before .pre, z, omega (arith, w .errors z .next), c .before .if2 .taken, w .faults)
 
--- src/lib.rt:126:9
 same-length-2 : tie.Need-same-length-2
 same-length-2 c = search needs
 
--- src/lib.rt:126:9
 same-length-3 : tie.Need-same-length-3
 same-length-3 c = search needs
 
--- src/lib.rt:126:9
 returns-2 : tie.Need-returns-2
 returns-2 c = search needs
 
--- src/lib.rt:128:5
 list-tokens-requires : tie.Need-list-tokens-requires
 list-tokens-requires c κs =
     let w = c .before .before .before .before .before .before .before .before .before .whole .ensures in
     let z = sym (w .nesting) ∙ c .before .before .before .before .if1 .left in
     (c .before .before .before .before .before .before .before .before .before .before .before .before .before .before .before .pre, z, omega (arith, w .errors z .next), omega (arith, w .tokens z .next), w .few, λ h. scratched _ _ _ _ (w .tokens z) h)
 
--- src/lib.rt:116:1
 same-length-4 : tie.Need-same-length-4
 same-length-4 c = search needs
 
--- src/lib.rt:116:1
 same-length-5 : tie.Need-same-length-5
 same-length-5 c = search needs
 
--- src/lib.rt:116:1
 returns-3 : tie.Need-returns-3
 returns-3 c = search needs
 

@@ -9,53 +9,41 @@ use Rattle.fields.proofs.put.Reads as put-reads
 use Rattle.lexer.proofs.cycle.tokens.Reads as tokens-reads
 use Rattle.lexer.proofs.rest.Reads as rest-reads
 
--- src/lib.rt:29:33
 slice-aggregate-put : tie.Need-slice-aggregate-put
 slice-aggregate-put c = search needs
 
--- src/lib.rt:29:9
 put-requires : tie.Need-put-requires
 put-requires c κs = search needs
 
--- src/lib.rt:30:33
 slice-aggregate-put-2 : tie.Need-slice-aggregate-put-2
 slice-aggregate-put-2 c = search needs
 
--- src/lib.rt:30:9
 put-requires-2 : tie.Need-put-requires-2
 put-requires-2 c κs = search needs
 
--- src/lib.rt:37:9
 tokens-requires : tie.Need-tokens-requires
 tokens-requires c κs = search needs
 
--- src/lib.rt:39:9
 same-length : tie.Need-same-length
 same-length c = search needs
 
--- src/lib.rt:39:9
 same-length-2 : tie.Need-same-length-2
 same-length-2 c = search needs
 
--- src/lib.rt:39:9
 returns : tie.Need-returns
-returns c = whole-stops _ _ _ _ _ _ _ _ _ (c .before .before .before .before .before .before .before .before .before .before .before .before .before .before .before .before .before .before .before .before .before .before .pre) (c .before .before .before .before .before .before .before .before .before .before .before .before .before .before .before .before .put .ensures .0) (c .before .before .before .before .before .before .before .before .before .before .before .before .before .before .before .before .put .ensures .1) (c .before .before .before .before .before .before .before .before .before .before .before .put2 .ensures .0) (c .before .before .before .before .before .before .before .before .before .before .before .put2 .ensures .1) _ (c .before .before .before .before .before .before .tokens .ensures) (c .if1 .taken)
+returns c = whole-stops _ _ _ _ _ _ _ _ _ _ (c .before .before .before .before .before .before .before .before .before .before .before .before .before .before .before .before .before .before .before .before .before .before .pre) (c .before .before .before .before .before .before .before .before .before .before .before .before .before .before .before .before .put .ensures .0) (c .before .before .before .before .before .before .before .before .before .before .before .before .before .before .before .before .put .ensures .1) (c .before .before .before .before .before .before .before .before .before .before .before .put2 .ensures .0) (c .before .before .before .before .before .before .before .before .before .before .before .put2 .ensures .1) _ (c .before .before .before .before .before .before .tokens .ensures) (c .if1 .taken)
 
--- src/lib.rt:41:5
 rest-requires : tie.Need-rest-requires
 rest-requires c κs = search needs
 
--- src/lib.rt:24:1
 same-length-3 : tie.Need-same-length-3
 same-length-3 c = search needs
 
--- src/lib.rt:24:1
 same-length-4 : tie.Need-same-length-4
 same-length-4 c = search needs
 
--- src/lib.rt:24:1
 returns-2 : tie.Need-returns-2
-returns-2 c = whole-reads _ _ _ _ _ _ _ _ _ (c .before .before .before .before .before .before .before .before .before .before .before .before .before .before .before .before .before .before .before .before .before .before .before .before .before .before .pre) (c .before .before .before .before .before .before .before .before .before .before .before .before .before .before .before .before .before .before .before .before .put .ensures .0) (c .before .before .before .before .before .before .before .before .before .before .before .before .before .before .before .before .before .before .before .before .put .ensures .1) (c .before .before .before .before .before .before .before .before .before .before .before .before .before .before .before .put2 .ensures .0) (c .before .before .before .before .before .before .before .before .before .before .before .before .before .before .before .put2 .ensures .1) _ (c .before .before .before .before .before .before .before .before .before .before .tokens .ensures) (c .before .before .before .before .if1 .left) _ _ (c .before .before .rest .ensures)
+returns-2 c = whole-reads _ _ _ _ _ _ _ _ _ _ (c .before .before .before .before .before .before .before .before .before .before .before .before .before .before .before .before .before .before .before .before .before .before .before .before .before .before .pre) (c .before .before .before .before .before .before .before .before .before .before .before .before .before .before .before .before .before .before .before .before .put .ensures .0) (c .before .before .before .before .before .before .before .before .before .before .before .before .before .before .before .before .before .before .before .before .put .ensures .1) (c .before .before .before .before .before .before .before .before .before .before .before .before .before .before .before .put2 .ensures .0) (c .before .before .before .before .before .before .before .before .before .before .before .before .before .before .before .put2 .ensures .1) _ (c .before .before .before .before .before .before .before .before .before .before .tokens .ensures) (c .before .before .before .before .if1 .left) _ _ (c .before .before .rest .ensures)
 
 pub whole-spec : {M : Type 1} → statement M
 whole-spec =

@@ -10,10 +10,10 @@ use Rattle.text.proofs.high.Statement.{statement}
 use Rattle.text.proofs.high.Tie as tie
 
 abbrev Inv-loop : tie.InvT-loop
-Inv-loop s at n₀ k₀ n k = (n ≡ highs s at k) × (n ≤ k) × (k ≤ 64)
+Inv-loop s at n₀ k₀ n k = (n ≡ highs s at k) × (n ≤ k) × (k ≤ 128)
 
 abbrev μ-loop : tie.MeasureT-loop
-μ-loop s at n₀ k₀ n k = 64 - k
+μ-loop s at n₀ k₀ n k = 128 - k
 
 loop-holds : tie.Need-loop-holds Inv-loop μ-loop
 unfolding highs
@@ -38,7 +38,7 @@ loop-again : tie.Need-loop-again Inv-loop μ-loop
 loop-again c = let l = c .before .before .loop in let a = c .before .before .before .args in let h = c .shared-slice-known .given (c .before .before .before .args .at + c .before .before .loop .k) in (highs-more (a .s .now) (a .at) (l .n) (l .k) (l .inv .0), omega arith, omega arith)
 
 returns : tie.Need-returns Inv-loop μ-loop
-returns c = let l = c .before .loop in let e : l .k ≡ 64 = omega arith in l .inv .0 ∙ ap (highs (c .before .before .args .s .now) (c .before .before .args .at)) e
+returns c = let l = c .before .loop in let e : l .k ≡ 128 = omega arith in l .inv .0 ∙ ap (highs (c .before .before .args .s .now) (c .before .before .args .at)) e
 
 pub high-spec : {M : Type 1} → statement M
 high-spec =

@@ -4,7 +4,7 @@ use borrow.Author.Needs.{needs}
 use Prim.Native.Nat.{_-_}
 use lib.ListN.{length}
 use Rattle.text.specs.Along.{Along}
-use Rattle.text.proofs.Longest.{along-along, along-stop, along-more}
+use Rattle.text.proofs.Longest.{along-along, along-stop, along-end, along-more}
 use Rattle.text.proofs.prefix.Statement.{statement}
 use Rattle.text.proofs.prefix.Tie as tie
 
@@ -27,7 +27,7 @@ seq-len-requires : tie.Need-seq-len-requires Inv-loop μ-loop
 seq-len-requires c κs = search needs
 
 returns : tie.Need-returns Inv-loop μ-loop
-returns c = along-stop _ _ _ (c .before .before .loop .inv) (c .before .seq-len .ensures .0) (c .if1 .taken)
+returns c = along-stop _ _ _ (c .before .before .before .loop .inv) (c .before .seq-len .ensures .0) (c .if1 .taken)
 
 add-ascii : tie.Need-add-ascii Inv-loop μ-loop
 add-ascii c = search needs
@@ -39,7 +39,10 @@ loop-less : tie.Need-loop-less Inv-loop μ-loop
 loop-less c = search needs
 
 loop-again : tie.Need-loop-again Inv-loop μ-loop
-loop-again c = along-more _ _ _ _ _ (c .before .before .before .loop .inv) (c .before .before .seq-len .ensures .0) (c .before .if1 .left) (c .ascii2 .ensures)
+loop-again c = along-more _ _ _ _ _ (c .before .before .before .before .loop .inv) (c .before .before .seq-len .ensures .0) (c .before .if1 .left) (c .ascii2 .ensures)
+
+returns-2 : tie.Need-returns-2 Inv-loop μ-loop
+returns-2 c = along-end _ _ (c .before .loop .inv) (c .loop-test .left)
 
 pub prefix-spec : {M : Type 1} → statement M
 prefix-spec =
@@ -55,4 +58,5 @@ prefix-spec =
     add-ascii
     ascii-requires-2
     loop-less
-    loop-again)
+    loop-again
+    returns-2)

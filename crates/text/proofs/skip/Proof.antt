@@ -34,7 +34,7 @@ loop-less : tie.Need-loop-less Inv-loop μ-loop
 loop-less c = search needs
 
 loop-again : tie.Need-loop-again Inv-loop μ-loop
-loop-again c = along-block _ _ _ 64 _ (c .before .before .before .loop .inv) (omega arith) (c .before .high .ensures) (c .if1 .left)
+loop-again c = along-block _ _ _ 128 _ (c .before .before .before .loop .inv) (omega arith) (c .before .high .ensures) (c .if1 .left)
 
 returns-2 : tie.Need-returns-2 Inv-loop μ-loop
 returns-2 c = c .before .loop .inv

@@ -4,7 +4,8 @@ use Prim.Native.Nat.{_-_}
 use lib.ListN.{length}
 use Rattle.lexer.specs.Lex.{textByte}
 use Rattle.lexer.proofs.Pieces.{text-byte, no-text}
-use Rattle.lexer.proofs.Past.{Going, start, more, stop, all}
+use Rattle.lexer.specs.Meets.{Going}
+use Rattle.lexer.proofs.Past.{start, more, stop, all}
 use borrow.Author.Needs.{needs}
 use Rattle.lexer.proofs.cycle.text_end.Statement.{statement}
 use Rattle.lexer.proofs.cycle.text_end.Tie as tie

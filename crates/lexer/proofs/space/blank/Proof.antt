@@ -12,48 +12,38 @@ use Rattle.lexer.proofs.scan.byte_at.Reads as byte-at-reads
 use Rattle.text.proofs.char_at.Reads as char-at-reads
 use Rattle.text.proofs.white_space.Reads as white-space-reads
 
--- src/space.rt:15:9
 byte-at-requires : tie.Need-byte-at-requires
 byte-at-requires c κs = search needs
 
--- src/space.rt:18:13
 returns : tie.Need-returns
 unfolding whiteSpace spaces every
 returns c = no-space _ _ _ (c .before .before .byte-at .ensures) 33 95 refl (search needs) (search needs) (search needs) (search needs)
 
--- src/space.rt:21:13
 returns-2 : tie.Need-returns-2
 unfolding whiteSpace spaces every
 returns-2 c = a-space _ _ _ (c .before .before .before .byte-at .ensures) 32 1 refl (search needs) (search needs) (search needs) (search needs)
 
--- src/space.rt:24:13
 returns-3 : tie.Need-returns-3
 unfolding whiteSpace spaces every
 returns-3 c = no-space _ _ _ (c .before .before .before .before .byte-at .ensures) 14 18 refl (search needs) (search needs) (search needs) (search needs)
 
--- src/space.rt:27:13
 returns-4 : tie.Need-returns-4
 unfolding whiteSpace spaces every
 returns-4 c = a-space _ _ _ (c .before .before .before .before .before .byte-at .ensures) 9 5 refl (search needs) (search needs) (search needs) (search needs)
 
--- src/space.rt:29:9
 returns-5 : tie.Need-returns-5
 unfolding whiteSpace spaces every
 returns-5 c = no-space _ _ _ (c .before .before .before .before .before .byte-at .ensures) 0 9 refl (search needs) (search needs) (search needs) (search needs)
 
--- src/space.rt:31:9
 char-at-requires : tie.Need-char-at-requires
 char-at-requires c κs = search needs
 
--- src/space.rt:32:8
 white-space-requires : tie.Need-white-space-requires
 white-space-requires c κs = search needs
 
--- src/space.rt:33:9
 returns-6 : tie.Need-returns-6
 returns-6 c = wide-space _ _ _ (c .before .before .char-at .ensures) (sym (c .before .white-space .ensures) ∙ c .if6 .taken) (search needs)
 
--- src/space.rt:11:1
 returns-7 : tie.Need-returns-7
 returns-7 c = no-wide _ _ _ (c .before .before .char-at .ensures) (sym (c .before .white-space .ensures) ∙ c .if6 .left) (search needs)
 

@@ -14,47 +14,36 @@ Inv-loop s at end last i₀ i = Counting s at end last i
 abbrev μ-loop : tie.MeasureT-loop
 μ-loop s at end last i₀ i = i - at
 
--- src/space.rt:68:9
 less-cr-requires : tie.Need-less-cr-requires Inv-loop μ-loop
 less-cr-requires c κs = search needs
 
--- src/space.rt:70:5
 loop-holds : tie.Need-loop-holds Inv-loop μ-loop
 loop-holds c = count-start _ _ _ _ (c .less-cr .ensures)
 
--- src/space.rt:71:14
 sub-if1 : tie.Need-sub-if1 Inv-loop μ-loop
 sub-if1 c = search needs
 
--- src/space.rt:71:12
 shared-slice-read-if1 : tie.Need-shared-slice-read-if1 Inv-loop μ-loop
 shared-slice-read-if1 c = search needs
 
--- src/space.rt:72:21
 sub-result : tie.Need-sub-result Inv-loop μ-loop
 sub-result c = search needs
 
--- src/space.rt:72:13
 returns : tie.Need-returns Inv-loop μ-loop
 returns c = count-stop _ _ _ _ _ (c .before .before .before .loop .inv) (c .before .before .loop-test .taken) (c .if1 .taken)
 
--- src/space.rt:74:9
 sub-i : tie.Need-sub-i Inv-loop μ-loop
 sub-i c = search needs
 
--- src/space.rt:70:5
 loop-less : tie.Need-loop-less Inv-loop μ-loop
 loop-less c = search needs
 
--- src/space.rt:70:5
 loop-again : tie.Need-loop-again Inv-loop μ-loop
 loop-again c = count-more _ _ _ _ _ (c .before .before .before .loop .inv) (c .before .before .loop-test .taken) (c .if1 .left)
 
--- src/space.rt:76:6
 sub-result-2 : tie.Need-sub-result-2 Inv-loop μ-loop
 sub-result-2 c = search needs
 
--- src/space.rt:64:1
 returns-2 : tie.Need-returns-2 Inv-loop μ-loop
 returns-2 c = count-all _ _ _ _ _ (c .before .loop .inv) (c .loop-test .left)
 

@@ -6,27 +6,21 @@ use Rattle.lexer.proofs.space.less_cr.Tie as tie
 use Rattle.lexer.proofs.space.less_cr.Reads as reads
 use Rattle.lexer.proofs.space.less_cr.Lts as lts
 
--- src/space.rt:56:14
 sub-if2 : tie.Need-sub-if2
 sub-if2 c = search needs
 
--- src/space.rt:56:12
 shared-slice-read-if2 : tie.Need-shared-slice-read-if2
 shared-slice-read-if2 c = search needs
 
--- src/space.rt:57:20
 sub-result : tie.Need-sub-result
 sub-result c = search needs
 
--- src/space.rt:57:13
 returns : tie.Need-returns
 returns c = cr _ _ _ (c .before .before .if1 .taken) (c .if2 .taken)
 
--- src/space.rt:51:1
 returns-2 : tie.Need-returns-2
 returns-2 c = no-cr _ _ _ (c .before .before .if1 .taken) (c .if2 .left)
 
--- src/space.rt:51:1
 returns-3 : tie.Need-returns-3
 returns-3 c = empty-line (c .before .args .s .now) _ _ (c .if1 .left) (search needs)
 

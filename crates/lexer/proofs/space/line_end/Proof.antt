@@ -3,12 +3,14 @@ use Prim.Native.Nat.{_-_}
 use lib.ListN.{length}
 use Rattle.lexer.specs.Space.{inLine}
 use Rattle.lexer.proofs.Lines.{in-line, at-newline}
-use Rattle.lexer.proofs.Past.{Going, start, more, stop, all}
+use Rattle.lexer.specs.Meets.{Going}
+use Rattle.lexer.proofs.Past.{more, stop, all}
 use borrow.Author.Needs.{needs}
 use Rattle.lexer.proofs.space.line_end.Statement.{statement}
 use Rattle.lexer.proofs.space.line_end.Tie as tie
 use Rattle.lexer.proofs.space.line_end.Reads as reads
 use Rattle.lexer.proofs.space.line_end.Lts as lts
+use Rattle.lexer.proofs.space.long_line.Reads as long-line-reads
 
 abbrev Inv-loop : tie.InvT-loop
 Inv-loop s at i₀ i = Going inLine s at i
@@ -16,31 +18,27 @@ Inv-loop s at i₀ i = Going inLine s at i
 abbrev μ-loop : tie.MeasureT-loop
 μ-loop s at i₀ i = length s - i
 
--- src/space.rt:41:5
-loop-holds : tie.Need-loop-holds Inv-loop μ-loop
-loop-holds c = start _ _ _ (search needs)
+long-line-requires : tie.Need-long-line-requires Inv-loop μ-loop
+long-line-requires c κs = search needs
 
--- src/space.rt:42:12
+loop-holds : tie.Need-loop-holds Inv-loop μ-loop
+loop-holds c = c .long-line .ensures
+
 shared-slice-read-if1 : tie.Need-shared-slice-read-if1 Inv-loop μ-loop
 shared-slice-read-if1 c = search needs
 
--- src/space.rt:43:13
 returns : tie.Need-returns Inv-loop μ-loop
 returns c = stop inLine _ _ _ (c .before .before .before .loop .inv) (c .before .before .loop-test .taken) (at-newline _ (c .if1 .taken))
 
--- src/space.rt:45:9
 add-i : tie.Need-add-i Inv-loop μ-loop
 add-i c = search needs
 
--- src/space.rt:41:5
 loop-less : tie.Need-loop-less Inv-loop μ-loop
 loop-less c = search needs
 
--- src/space.rt:41:5
 loop-again : tie.Need-loop-again Inv-loop μ-loop
 loop-again c = more inLine _ _ _ (c .before .before .before .loop .inv) (c .before .before .loop-test .taken) (in-line _ (c .if1 .left))
 
--- src/space.rt:36:1
 returns-2 : tie.Need-returns-2 Inv-loop μ-loop
 returns-2 c = all inLine _ _ _ (c .before .loop .inv) (c .loop-test .left)
 
@@ -50,6 +48,7 @@ line-end-spec =
     (tie.spec
     Inv-loop
     μ-loop
+    long-line-requires
     loop-holds
     shared-slice-read-if1
     returns

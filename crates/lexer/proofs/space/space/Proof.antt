@@ -2,7 +2,8 @@
 use Prim.Native.Nat.{_-_}
 use lib.ListN.{length}
 use borrow.Author.Tests.{not-true, not-false}
-use Rattle.lexer.proofs.Spacing.{Spacing, Commenting, begin, one-blank, one-comment, no-comment, line-on, line-moves, line-off}
+use Rattle.lexer.specs.Meets.{Spacing}
+use Rattle.lexer.proofs.Spacing.{Commenting, begin, on, one-blank, one-comment, no-comment, line-on, line-moves, line-off}
 use borrow.Author.Needs.{needs}
 use native.Mathlib.Omega.{arith}
 use Rattle.lexer.proofs.space.space.Statement.{statement}
@@ -14,6 +15,7 @@ use Rattle.lexer.proofs.space.blank.Reads as blank-reads
 use Rattle.lexer.proofs.space.goes_on.Reads as goes-on-reads
 use Rattle.lexer.proofs.space.line_end.Reads as line-end-reads
 use Rattle.lexer.proofs.space.next_line.Reads as next-line-reads
+use Rattle.lexer.proofs.space.spaces.Reads as spaces-reads
 
 abbrev Inv-lines : tie.InvT-lines
 Inv-lines s from at₀ n at = Commenting s from at₀ at
@@ -27,69 +29,56 @@ Inv-space s from at₀ at = Spacing s from at
 abbrev μ-space : tie.MeasureT-space
 μ-space s from at₀ at = length s - at
 
--- src/space.rt:99:5
 space-holds : tie.Need-space-holds Inv-lines μ-lines Inv-space μ-space
 space-holds c = begin _ _ (search needs)
 
--- src/space.rt:100:13
+spaces-requires : tie.Need-spaces-requires Inv-lines μ-lines Inv-space μ-space
+spaces-requires c κs = search needs
+
 blank-requires : tie.Need-blank-requires Inv-lines μ-lines Inv-space μ-space
 blank-requires c κs = search needs
 
--- src/space.rt:102:13
 add-at : tie.Need-add-at Inv-lines μ-lines Inv-space μ-space
 add-at c = search needs
 
--- src/space.rt:99:5
 space-less : tie.Need-space-less Inv-lines μ-lines Inv-space μ-space
 space-less c = search needs
 
--- src/space.rt:99:5
 space-again : tie.Need-space-again Inv-lines μ-lines Inv-space μ-space
-space-again c = one-blank _ _ _ _ (c .before .before .space .inv) (c .before .blank .ensures) (c .if1 .taken)
+space-again c = one-blank _ _ _ _ (on _ _ _ _ (c .before .before .before .space .inv) (c .before .before .spaces .ensures)) (c .before .blank .ensures) (c .if1 .taken)
 
--- src/space.rt:105:12
 byte-at-requires : tie.Need-byte-at-requires Inv-lines μ-lines Inv-space μ-space
 byte-at-requires c κs = search needs
 
--- src/space.rt:108:9
 add-at-2 : tie.Need-add-at-2 Inv-lines μ-lines Inv-space μ-space
 add-at-2 c = search needs
 
--- src/space.rt:109:9
 lines-holds : tie.Need-lines-holds Inv-lines μ-lines Inv-space μ-space
-lines-holds c = one-comment _ _ _ _ _ (c .before .before .before .before .space .inv) (c .before .before .before .blank .ensures) (c .before .before .if1 .left) (c .before .byte-at .ensures) (c .if2 .left)
+lines-holds c = one-comment _ _ _ _ _ (on _ _ _ _ (c .before .before .before .before .before .space .inv) (c .before .before .before .before .spaces .ensures)) (c .before .before .before .blank .ensures) (c .before .before .if1 .left) (c .before .byte-at .ensures) (c .if2 .left)
 
--- src/space.rt:110:17
 line-end-requires : tie.Need-line-end-requires Inv-lines μ-lines Inv-space μ-space
 line-end-requires c κs = search needs
 
--- src/space.rt:111:17
 goes-on-requires : tie.Need-goes-on-requires Inv-lines μ-lines Inv-space μ-space
 goes-on-requires c κs = search needs
 
--- src/space.rt:112:13
 next-line-requires : tie.Need-next-line-requires Inv-lines μ-lines Inv-space μ-space
 next-line-requires c κs = search needs
 
--- src/space.rt:99:5
 space-less-2 : tie.Need-space-less-2 Inv-lines μ-lines Inv-space μ-space
 space-less-2 c = search needs
 
--- src/space.rt:99:5
 space-again-2 : tie.Need-space-again-2 Inv-lines μ-lines Inv-space μ-space
 space-again-2 c = line-off _ _ _ _ _ _ _ (c .before .before .before .before .lines .inv) (c .before .before .before .line-end .ensures) (c .before .before .goes-on .ensures) (c .before .next-line .ensures) (not-true _ (c .if3 .taken))
 
--- src/space.rt:109:9
 lines-less : tie.Need-lines-less Inv-lines μ-lines Inv-space μ-space
 lines-less c = omega (arith, line-moves _ _ _ _ _ _ _ (c .before .before .before .before .lines .inv) (c .before .before .before .line-end .ensures) (c .before .before .goes-on .ensures) (c .before .next-line .ensures) (not-false _ (c .if3 .left)), c .before .next-line .ensures .high)
 
--- src/space.rt:109:9
 lines-again : tie.Need-lines-again Inv-lines μ-lines Inv-space μ-space
 lines-again c = line-on _ _ _ _ _ _ _ (c .before .before .before .before .lines .inv) (c .before .before .before .line-end .ensures) (c .before .before .goes-on .ensures) (c .before .next-line .ensures) (not-false _ (c .if3 .left))
 
--- src/space.rt:94:1
 returns : tie.Need-returns Inv-lines μ-lines Inv-space μ-space
-returns c = no-comment _ _ _ _ _ (c .before .before .before .before .space .inv) (c .before .before .before .blank .ensures) (c .before .before .if1 .left) (c .before .byte-at .ensures) (c .if2 .taken)
+returns c = no-comment _ _ _ _ _ (on _ _ _ _ (c .before .before .before .before .before .space .inv) (c .before .before .before .before .spaces .ensures)) (c .before .before .before .blank .ensures) (c .before .before .if1 .left) (c .before .byte-at .ensures) (c .if2 .taken)
 
 pub space-spec : {M : Type 1} → statement M
 space-spec =
@@ -100,6 +89,7 @@ space-spec =
     Inv-space
     μ-space
     space-holds
+    spaces-requires
     blank-requires
     add-at
     space-less

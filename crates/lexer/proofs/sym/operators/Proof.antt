@@ -4,7 +4,8 @@ use Prim.Native.Nat.{_-_}
 use lib.ListN.{length}
 use borrow.Author.Tests.{not-true, not-false}
 use Rattle.lexer.specs.Sym.{follows}
-use Rattle.lexer.proofs.Past.{Going, start, more, stop, all}
+use Rattle.lexer.specs.Meets.{Going}
+use Rattle.lexer.proofs.Past.{start, more, stop, all}
 use borrow.Author.Needs.{needs}
 use Rattle.lexer.proofs.sym.operators.Statement.{statement}
 use Rattle.lexer.proofs.sym.operators.Tie as tie
