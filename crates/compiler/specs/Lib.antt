@@ -1,0 +1,9 @@
+pub mod Post
+pub mod Pieces
+pub mod Calling
+pub mod Common
+pub mod Moves
+pub mod FormsA
+pub mod FormsB
+pub mod FormsC
+pub mod FormsD

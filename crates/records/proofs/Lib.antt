@@ -1,0 +1,11 @@
+mod Stored
+mod Elsing
+mod Small
+mod Jumps
+mod Pats
+mod Paths
+mod Strings
+mod Summing
+mod Holding
+mod Operating
+mod Calling
