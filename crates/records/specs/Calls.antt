@@ -28,7 +28,7 @@ use Rattle.finds.specs.Means.{Readable, FoundIs, undefinedKind}
 abbrev pub argsAt : List ℕ → List ℕ → ℕ → ℕ → ℕ → List Arg
 argsAt b s j k a = binds (namesOf b a (endOf b (placeAt s j))) (numbersOf s k a)
 
--- "definition, arguments, skip, kind", the kind by its number
+-- a CallDef: its definition's number, arguments, skip, and the kind by its number
 abbrev pub defBytes : ℕ → List Arg → ℕ → ℕ → List ℕ
 defBytes n as′ skip kind = field 0x5A (number 2 n ++ (number 2 (length as′) ++ (argList 2 as′ ++ (number 2 skip ++ (kind ∷ [])))))
 

@@ -1,13 +1,12 @@
--- What a call of `compile` comes to, and what is left of the room. Document 01: "compile: tree bytes in, terms or errors out"; "The lowest applicable of 2 to
--- 6 and 8 is given; then 7, tested against the listing due; then 0 or 1." Assumes nothing.
+-- What a call of `compile` comes to, and what is left of the room. Document 01: "The lowest applicable of 2 to 6 and 8 is given; then 7, tested against the
+-- listing due; then 0 or 1." Assumes nothing.
 use Prim.Native.Nat.{ℕ, _≤_}
-use mathlib.Core.Path.{_≡_, refl, sym, ap, subst, _∙_}
+use mathlib.Core.Path.{_≡_, ap}
 use mathlib.Core.List.{List}
-use lib.ListN.{length}
 use Rattle.fields.specs.declared.Answer.{Answer}
 use Rattle.fields.specs.Outcome.{Outcome, refusal, Answers}
 use Rattle.tree.specs.Tree.{Tree}
-use Rattle.tree.specs.Verdict.{Says, Encodes, says-zero}
+use Rattle.tree.specs.Verdict.{Says, Encodes}
 use Rattle.tree.specs.Promises.{one-tree, one-verdict}
 use Rattle.rules.specs.Listing.{compiling}
 
