@@ -38,10 +38,6 @@ head-is m w l = (refl, omega arith, omega (arith, and-le-r (mixed w + l) m))
 
 -- ---- a row comes into view
 
--- the text of the field at q is what stands behind its three bytes, up to its end
-pub text-part : (b : List ℕ) (q z : ℕ) → z ≡ endOf b q → take (z - (q + 3)) (drop (q + 3) b) ≡ textOf b q
-text-part b q z e = let f : z - (q + 3) ≡ getD b (q + 1) 0 + getD b (q + 2) 0 * 256 = omega arith in ap (λ (n : ℕ). take n (drop (q + 3) b)) f
-
 pub push-is : (x y s : List ℕ) (k kind q a n c l tail w h cl ky : ℕ) → y ≡ x → w ≡ wordOf y → h ≡ headOf (getD s 0 0) w (length y) → cl ≡ classOf kind → ky ≡ keyOf cl (length y) a
     → set (set (set (set (set s (4 * k) w) (4 * k + 1) (ky + n * 17179869184 + l * 1125899906842624)) (4 * k + 2) (getD s h 0 + h * 16384 + q * 1073741824 + kind * 35184372088832 + c * 281474976710656)) (4 * k + 3) tail) h k
     ≡ pushed x s k kind q a n c l tail

@@ -10,6 +10,7 @@ use mathlib.Core.List.{List}
 use borrow.Author.Tests.{ltb-true, ltb-false}
 use lib.Dec.{eqb, ltb}
 use lib.ListN.{length, getD, take, drop, length-take, length-drop}
+use Rattle.reads.specs.Texts.{text-slice}
 use Rattle.tree.specs.Rose.{Roses, rnil, endOf, textOf, Row}
 use Rattle.tree.specs.Tree.{Term, Terms, Entries, textPlace, tNum, tFold, tObj}
 use Rattle.tree.specs.Form.{fTerms, fEntries}
@@ -34,11 +35,6 @@ use Rattle.finds.specs.Wide.{WidthIs, WidthAt, WidthUnder, WidthNamed, v
 
 -- ---- texts as parts of the bytes
 
-pub part-text : (b : List ℕ) (p z : ℕ) → z ≡ endOf b p → take (z - (p + 3)) (drop (p + 3) b) ≡ textOf b p
-part-text b p z e =
-    let n : z - (p + 3) ≡ lenOf b p = omega (arith, e) in
-    ap (λ (i : ℕ). take i (drop (p + 3) b)) n
-
 pub part-short : (b : List ℕ) (n p : ℕ) → length b ≤ 32768 → length (take n (drop p b)) < 65536
 part-short b n p h = omega (arith, length-take n (drop p b), length-drop p b)
 
@@ -47,7 +43,7 @@ six : (q : ℕ) → q + 3 + 3 ≡ q + 6
 six q = omega arith
 
 pub part-name : (b : List ℕ) (q z : ℕ) → z ≡ endOf b (q + 3) → take (z - (q + 6)) (drop (q + 6) b) ≡ textOf b (q + 3)
-part-name b q z e = subst (λ (i : ℕ). take (z - i) (drop i b) ≡ textOf b (q + 3)) (six q) (part-text b (q + 3) z e)
+part-name b q z e = subst (λ (i : ℕ). take (z - i) (drop i b) ≡ textOf b (q + 3)) (six q) (text-slice b (q + 3) z e)
 
 -- ---- variables and breaks
 

@@ -9,6 +9,7 @@ use lib.Dec.{eqb}
 use lib.ListN.{length, getD, take, drop}
 use lib.Seq.{getD-take, getD-drop}
 use borrow.Author.Tests.{eqb-true}
+use Rattle.reads.specs.Texts.{text-slice}
 use Rattle.fields.specs.Number.{number, value}
 use Rattle.fields.specs.Field.{field, length-field}
 use Rattle.fields.specs.Room.{overlay}
@@ -33,9 +34,6 @@ string-fits b x q h = head-fits b (fStrPart x) rnil q (endOf b q) h .0
 -- ---- a text
 
 -- what the code hands on
-pub text-of : (b : List ℕ) (q z : ℕ) → z ≡ endOf b q → take (z - (q + 3)) (drop (q + 3) b) ≡ textOf b q
-text-of b q z e = let l : z - (q + 3) ≡ getD b (q + 1) 0 + getD b (q + 2) 0 * 256 = omega arith in ap (λ (n : ℕ). take n (drop (q + 3) b)) l
-
 pub text-put : (b : List ℕ) (q z f a o : ℕ) (l d d₁ : List ℕ) → getD b q 0 ≡ 0xBB → z ≡ endOf b q → l ≡ textOf b q → d₁ ≡ overlay d o (field 0x55 l)
     → (x : StrPart) → StrPartAt b x q → Puts (nodeBytes 2 (stringNode x f a)) o d d₁ (o + (z - q))
 unfolding stringNode
@@ -51,7 +49,7 @@ text-size b q f a x h e =
     (λ g. omega (arith, length-field 0x55 (textOf b q), text-length b q (g .fits))) x h
 
 pub text-long : (b : List ℕ) (q z : ℕ) → z ≡ endOf b q → endOf b q ≤ length b → length (take (z - (q + 3)) (drop (q + 3) b)) ≡ endOf b q - (q + 3)
-text-long b q z e h = ap length (text-of b q z e) ∙ text-length b q h
+text-long b q z e h = ap length (text-slice b q z e) ∙ text-length b q h
 
 -- ---- a character
 

@@ -1,5 +1,6 @@
 -- `cells::push`: no cell's sum wraps, and the row, with its head, is the one due. Assumes nothing.
-use Rattle.cells.proofs.Laws.{text-part, push-is}
+use Rattle.reads.specs.Texts.{text-slice}
+use Rattle.cells.proofs.Laws.{push-is}
 use lib.ListN.{length-set}
 use native.Mathlib.Omega.{arith}
 use borrow.Author.Needs.{needs}
@@ -137,7 +138,7 @@ same-length : tie.Need-same-length
 same-length c = search needs
 
 returns : tie.Need-returns
-returns c = let a = c .before .before .before .before .before .before .before .before .before .before .args in push-is _ _ _ _ _ _ _ _ _ _ _ _ _ _ _ (text-part (a .tree .now) (a .q) (c .before .before .before .before .before .before .before .end-of .result) (c .before .before .before .before .before .before .before .end-of .ensures)) (c .before .before .before .before .before .word .ensures) (c .before .before .before .head-of .ensures .0) (c .before .class-of .ensures .0) (c .key .ensures .0)
+returns c = let a = c .before .before .before .before .before .before .before .before .before .before .args in push-is _ _ _ _ _ _ _ _ _ _ _ _ _ _ _ (text-slice (a .tree .now) (a .q) (c .before .before .before .before .before .before .before .end-of .result) (c .before .before .before .before .before .before .before .end-of .ensures)) (c .before .before .before .before .before .word .ensures) (c .before .before .before .head-of .ensures .0) (c .before .class-of .ensures .0) (c .key .ensures .0)
 
 pub push-spec : {M : Type 1} → statement M
 push-spec =

@@ -4,7 +4,7 @@ use native.Mathlib.Omega.{arith}
 use mathlib.Core.Path.{refl}
 use denote.Ref.{now}
 use borrow.Author.Needs.{needs}
-use Rattle.compiler.specs.FormsC.Noting.{text-part}
+use Rattle.reads.specs.Texts.{text-slice}
 use Rattle.compiler.specs.FormsC.Quoted.{format-fits, format-long, format-call, format-bare}
 use Rattle.compiler.proofs.format.Statement.{statement}
 use Rattle.compiler.proofs.format.Tie as tie
@@ -65,7 +65,7 @@ returns c =
     let b = now (s .args .tree) in
     let f = format-fits b (s .args .p) (s .args .q) (s .pre .2) (c .before .before .before .before .before .before .if1 .taken) in
     let e = c .before .before .supplied .ensures in
-    format-call _ _ _ _ _ _ _ _ _ _ (c .before .before .before .before .before .before .if1 .taken) (text-part b (s .args .p) (s .args .q) (f .0)) refl (e .0) (e .1) (e .2) (e .3)
+    format-call _ _ _ _ _ _ _ _ _ _ (c .before .before .before .before .before .before .if1 .taken) (text-slice b (s .args .p) (s .args .q) (f .0)) refl (e .0) (e .1) (e .2) (e .3)
 
 insert-requires : tie.Need-insert-requires
 insert-requires c κs = search needs

@@ -4,9 +4,10 @@ use native.Mathlib.Omega.{arith}
 use mathlib.Core.Path.{refl, sym, ap}
 use denote.Ref.{now}
 use lib.ListN.{length}
+use Rattle.reads.specs.Texts.{text-slice}
 use Rattle.reads.specs.Shapes.{text-length}
 use borrow.Author.Needs.{needs}
-use Rattle.compiler.specs.FormsC.Noting.{reserved, inserted, placed-low, spot-low, text-part}
+use Rattle.compiler.specs.FormsC.Noting.{reserved, inserted, placed-low, spot-low}
 use Rattle.compiler.specs.FormsC.Quoted.{plain-is}
 use Rattle.compiler.proofs.plain.Statement.{statement}
 use Rattle.compiler.proofs.plain.Tie as tie
@@ -76,7 +77,7 @@ put-text-requires c κs =
     let a = reserved (s .args .o) _ st _ (s .pre .0) (c .before .before .before .before .before .before .before .before .before .before .reserve .ensures) in
     let i = inserted _ (c .before .before .before .before .before .before .before .before .before .before .reserve .last .0) _ (a .0) (c .before .before .before .before .before .before .before .insert .ensures .1) in
     let x = spot-low (s .args .o) _ st (c .before .before .before .before .before .before .before .insert .last .0) (s .pre .6) (omega (arith, s .pre .5)) (omega (arith, i .2, a .2, s .pre .2, s .pre .3, s .pre .5)) (c .before .place .ensures .0) in
-    omega (arith, x, s .pre .2, s .pre .3, ap length (text-part b (s .args .q) (s .args .z) (sym (s .pre .1))), text-length b (s .args .q) (omega (arith, s .pre .1, s .pre .2)))
+    omega (arith, x, s .pre .2, s .pre .3, ap length (text-slice b (s .args .q) (s .args .z) (sym (s .pre .1))), text-length b (s .args .q) (omega (arith, s .pre .1, s .pre .2)))
 
 same-length : tie.Need-same-length
 same-length c = search needs
@@ -86,7 +87,7 @@ returns c =
     let s = c .before .before .before .before .before .before .before .before .before .before .before .before .before .before .before .before .before in
     let b = now (s .args .tree) in
     let st = now (s .args .st) in
-    (plain-is b _ _ _ _ _ _ _ _ _ _ _ _ _ _ (s .pre .0) (s .pre .1) (s .pre .2) refl (c .before .before .before .before .before .before .before .before .before .before .before .before .before .reserve .ensures) (c .before .before .before .before .before .before .before .before .before .before .insert .ensures .0) (c .before .before .before .before .before .before .before .before .before .before .insert .ensures .1) (c .before .before .before .before .before .before .before .before .before .put-bare .ensures) (c .before .before .before .before .place .ensures .0) (c .before .before .before .before .place .ensures .1) (text-part b (s .args .q) (s .args .z) (sym (s .pre .1))) (c .before .before .put-text .ensures), refl)
+    (plain-is b _ _ _ _ _ _ _ _ _ _ _ _ _ _ (s .pre .0) (s .pre .1) (s .pre .2) refl (c .before .before .before .before .before .before .before .before .before .before .before .before .before .reserve .ensures) (c .before .before .before .before .before .before .before .before .before .before .insert .ensures .0) (c .before .before .before .before .before .before .before .before .before .before .insert .ensures .1) (c .before .before .before .before .before .before .before .before .before .put-bare .ensures) (c .before .before .before .before .place .ensures .0) (c .before .before .before .before .place .ensures .1) (text-slice b (s .args .q) (s .args .z) (sym (s .pre .1))) (c .before .before .put-text .ensures), refl)
 
 pub plain-spec : {M : Type 1} → statement M
 plain-spec =

@@ -11,6 +11,7 @@ use lib.Dec.{leb, ltb, eqb}
 use lib.ListN.{length, getD, set, take, drop, length-append, length-set}
 use lib.Seq.{getD-set-same, getD-set-other}
 use borrow.Author.Tests.{ltb-true, ltb-false, le-leb, lt-leb}
+use Rattle.reads.specs.Texts.{text-slice}
 use Rattle.fields.specs.Number.{number}
 use Rattle.fields.specs.Field.{field}
 use Rattle.fields.specs.Room.{overlay}
@@ -237,33 +238,30 @@ recurse-bare b p s k o r st st₁ d d₁ al e t h m = subst (λ (x : ℕ). Did b
 
 -- ---- as the code has them: the text is a part of the bytes
 
-pub text-part : (b : List ℕ) (q z : ℕ) → z ≡ endOf b q → take (z - (q + 3)) (drop (q + 3) b) ≡ textOf b q
-text-part b q z e = let h : z - (q + 3) ≡ getD b (q + 1) 0 + getD b (q + 2) 0 * 256 = omega (arith, e) in ap (λ (n : ℕ). take n (drop (q + 3) b)) h
-
 pub part-length : (b : List ℕ) (q z : ℕ) → z ≡ endOf b q → endOf b q ≤ length b → length (take (z - (q + 3)) (drop (q + 3) b)) ≡ z - (q + 3)
-part-length b q z e h = ap length (text-part b q z e) ∙ text-length b q h ∙ ap (λ (x : ℕ). x - (q + 3)) (sym e)
+part-length b q z e h = ap length (text-slice b q z e) ∙ text-length b q h ∙ ap (λ (x : ℕ). x - (q + 3)) (sym e)
 
 pub int-code : (b : List ℕ) (p : ℕ) (s : List ℕ) (k o x v z : ℕ) (st st₁ d d₁ : List ℕ) (al : ℕ) → getD b p 0 ≡ 0xAA → length st ≡ 3 → off st < late → z ≡ endOf b p
     → v ≡ intOf (take (z - (p + 3)) (drop (p + 3) b)) → v < 2 ^ 63
     → (x ≡ spotOf o (startOf o (off st) 11)) × (st₁ ≡ set st 1 (nextOf o (startOf o (off st) 11) 11)) → d₁ ≡ overlay d x (field 0x53 (number 8 v))
     → Did b p s s k o st st₁ d d₁ al 0
-int-code b p s k o x v z st st₁ d d₁ al e t h i j l m n = int-did b p s k o x v st st₁ d d₁ al e t h (j ∙ ap intOf (text-part b p z i)) l (m .0) (m .1) n
+int-code b p s k o x v z st st₁ d d₁ al e t h i j l m n = int-did b p s k o x v st st₁ d d₁ al e t h (j ∙ ap intOf (text-slice b p z i)) l (m .0) (m .1) n
 
 pub num-code : (b : List ℕ) (p : ℕ) (s : List ℕ) (k o x v z : ℕ) (st st₁ d d₁ : List ℕ) (al : ℕ) → getD b p 0 ≡ 0xAA → length st ≡ 3 → off st < late → z ≡ endOf b p
     → v ≡ intOf (take (z - (p + 3)) (drop (p + 3) b)) → 2 ^ 63 ≤ v → endOf b p ≤ length b
     → (x ≡ spotOf o (startOf o (off st) (z - p))) × (st₁ ≡ set st 1 (nextOf o (startOf o (off st) (z - p)) (z - p))) → d₁ ≡ overlay d x (field 0x54 (take (z - (p + 3)) (drop (p + 3) b)))
     → Did b p s s k o st st₁ d d₁ al 0
 num-code b p s k o x v z st st₁ d d₁ al e t h i j l g m n =
-    num-did b p s k o x v st st₁ d d₁ al e t h (j ∙ ap intOf (text-part b p z i)) l g
+    num-did b p s k o x v st st₁ d d₁ al e t h (j ∙ ap intOf (text-slice b p z i)) l g
     (m .0 ∙ ap (λ (w : ℕ). spotOf o (startOf o (off st) (w - p))) i) (m .1 ∙ ap (λ (w : ℕ). set st 1 (nextOf o (startOf o (off st) (w - p)) (w - p))) i)
-    (n ∙ ap (λ (y : List ℕ). overlay d x (field 0x54 y)) (text-part b p z i))
+    (n ∙ ap (λ (y : List ℕ). overlay d x (field 0x54 y)) (text-slice b p z i))
 
 pub var-code : (b : List ℕ) (p : ℕ) (s : List ℕ) (k o x r i class err z : ℕ) (st st₁ d d₁ : List ℕ) (al : ℕ) → NameIs class err (getD b p 0) → length st ≡ 3 → off st < late → z ≡ endOf b p
     → Finds b s (take (z - (p + 3)) (drop (p + 3) b)) class r → (r ≡ 0 → ⊥) → i ≡ getD s 1 0 - beforeAt s r - 1
     → (x ≡ spotOf o (startOf o (off st) 5)) × (st₁ ≡ set st 1 (nextOf o (startOf o (off st) 5) 5)) → d₁ ≡ overlay d x (field 0x59 (number 2 i))
     → Did b p s s k o st st₁ d d₁ al 0
 var-code b p s k o x r i class err z st st₁ d d₁ al c t h e f n q m j =
-    var-did b p s k o x r i class err st st₁ d d₁ al c t h (subst (λ (y : List ℕ). Finds b s y class r) (text-part b p z e) f) n q (m .0) (m .1) j
+    var-did b p s k o x r i class err st st₁ d d₁ al c t h (subst (λ (y : List ℕ). Finds b s y class r) (text-slice b p z e) f) n q (m .0) (m .1) j
 
 pub lost-code : (b : List ℕ) (p : ℕ) (s : List ℕ) (k o y r v class err z : ℕ) (st st₁ st₂ d d₁ d₂ : List ℕ) (al : ℕ) → NameIs class err (getD b p 0) → length st ≡ 3 → off st < late → z ≡ endOf b p → endOf b p ≤ length b
     → Finds b s (take (z - (p + 3)) (drop (p + 3) b)) class r → r ≡ 0
@@ -272,7 +270,7 @@ pub lost-code : (b : List ℕ) (p : ℕ) (s : List ℕ) (k o y r v class err z :
     → Did b p s s k o st st₂ d d₂ al v
 lost-code b p s k o y r v class err z st st₁ st₂ d d₁ d₂ al c t h e fits f n i j m =
     subst (λ (w : ℕ). Did b p s s k o st st₂ d d₂ al w) (sym (m .0))
-    (lost-did b p s k o y (spotOf o (startOf o (off st₁) 3)) r class err st st₁ st₂ d d₁ d₂ al c t h fits (subst (λ (w : List ℕ). Finds b s w class r) (text-part b p z e) f) n (i .0) (i .1)
+    (lost-did b p s k o y (spotOf o (startOf o (off st₁) 3)) r class err st st₁ st₂ d d₁ d₂ al c t h fits (subst (λ (w : List ℕ). Finds b s w class r) (text-slice b p z e) f) n (i .0) (i .1)
     (j ∙ ap (λ (w : ℕ). overlay d y (field err (number 2 (getD s 3 0) ++ (number 2 (p + 3) ++ number 2 (w - p - 3))))) e) refl (m .1) (m .2))
 
 -- a row that was found can be read

@@ -108,10 +108,7 @@ placed-low o st p h = placed-within o (off st) p h
 pub spot-low : (o x : ℕ) (st st₁ : List ℕ) → Placed o st → off st ≤ late → off st₁ ≤ late → x ≡ spotOf o (off st₁) → x ≤ late
 spot-low o x st st₁ p h g e = omega (arith, e, spot-within o (off st₁) late (placed-within o (off st) p h) g)
 
--- ---- texts as parts of the bytes: that of the field at q, up to its end z, and that less its first byte
-
-pub text-part : (b : List ℕ) (q z : ℕ) → z ≡ endOf b q → take (z - (q + 3)) (drop (q + 3) b) ≡ textOf b q
-text-part b q z e = let f : z - (q + 3) ≡ getD b (q + 1) 0 + getD b (q + 2) 0 * 256 = omega (arith, e) in ap (λ (n : ℕ). take n (drop (q + 3) b)) f
+-- ---- a text less its first byte, as a part of the bytes: that of the field at q, up to its end z
 
 pub name-part : (b : List ℕ) (q z : ℕ) → z ≡ endOf b q → q + 4 ≤ z → z ≤ length b → take (z - (q + 4)) (drop (q + 4) b) ≡ drop 1 (textOf b q)
 name-part b q z e h l =

@@ -7,6 +7,7 @@ use mathlib.Core.List.{List, [], _∷_, _++_, append-assoc}
 use lib.Dec.{eqb}
 use lib.ListN.{length, getD, set, take, drop, length-append, length-map}
 use borrow.Author.Tests.{eqb-true}
+use Rattle.reads.specs.Texts.{text-slice}
 use Rattle.fields.specs.Field.{field, length-field}
 use Rattle.fields.specs.Room.{overlay}
 use Rattle.tree.specs.Rose.{endOf, textOf, rnil, Row, row-le}
@@ -31,7 +32,6 @@ use Rattle.records.specs.Sums.{Summands, string-summands, SumReady, SumPut}
 use Rattle.compiler.specs.Post.{Ready, Stands, Placed, Did, Strung}
 use Rattle.compiler.specs.Pieces.{FormatIs, plainOut}
 use Rattle.compiler.specs.Common.{off-num, off-ers, off-off, off-len, Made, did-of, bare-long}
-use Rattle.compiler.specs.FormsC.Noting.{text-part}
 use Rattle.compiler.specs.FormsC.Paths.{past-low, row-on}
 use Rattle.compiler.specs.FormsC.Sums.{strings-flat, summed-size, summed-count, sum-state, sum-own}
 use Rattle.compiler.specs.FormsC.Strings.{StringsHere}
@@ -71,7 +71,7 @@ format-fits b p q g l =
     (s .1, on-format b p (g .2) (λ _. endOf b p ≤ length b) (g .1) (y .0) (y .1) (λ i w. i .fits) (g .0) (g .3))
 
 pub format-long : (b : List ℕ) (p q : ℕ) → FormatHere b p q → p < q → length b ≤ 32768 → length (take (q - (p + 3)) (drop (p + 3) b)) < 65536
-format-long b p q g l h = let f = format-fits b p q g l in omega (arith, h, f .1, ap length (text-part b p q (f .0)), text-length b p (f .1))
+format-long b p q g l h = let f = format-fits b p q g l in omega (arith, h, f .1, ap length (text-slice b p q (f .0)), text-length b p (f .1))
 
 pub format-call : (b : List ℕ) (p q at : ℕ) (x s st st₁ d d₁ : List ℕ) → p < q → x ≡ textOf b p → at ≡ p + 3
     → ((vw : View) (k i : ℕ) → Seen vw b s k → let a = called (vw .top) i x at 0 (bare []) (envOf vw b s k) empty in Put (slot a) (a .errs) st st₁ d d₁)

@@ -1,7 +1,8 @@
 -- `records::put_string` meets its contract: by the tag a text, a character, or a term put into the format. Assumes nothing.
+use Rattle.reads.specs.Texts.{text-slice}
 use Rattle.puts.specs.Runs.{utf8-few}
 use native.Mathlib.Omega.{arith}
-use Rattle.records.proofs.Strings.{string-fits, text-of, text-put, char-fits, char-put, term-put, text-size, text-long}
+use Rattle.records.proofs.Strings.{string-fits, text-put, char-fits, char-put, term-put, text-size, text-long}
 use borrow.Author.Needs.{needs}
 use Rattle.records.proofs.put_string.Statement.{statement}
 use Rattle.records.proofs.put_string.Tie as tie
@@ -56,7 +57,7 @@ same-length c = search needs
 
 -- src/lib.rt:281:9
 returns : tie.Need-returns
-returns c = text-put _ _ _ _ _ _ _ _ _ (c .before .before .before .before .before .before .if1 .taken) (c .before .before .before .before .before .end-of .ensures) (text-of (c .before .before .before .before .before .before .before .before .before .before .args .tree .now) _ _ (c .before .before .before .before .before .end-of .ensures)) (c .before .before .put-text .ensures)
+returns c = text-put _ _ _ _ _ _ _ _ _ (c .before .before .before .before .before .before .if1 .taken) (c .before .before .before .before .before .end-of .ensures) (text-slice (c .before .before .before .before .before .before .before .before .before .before .args .tree .now) _ _ (c .before .before .before .before .before .end-of .ensures)) (c .before .before .put-text .ensures)
 
 -- src/lib.rt:284:13
 char-at-requires : tie.Need-char-at-requires
