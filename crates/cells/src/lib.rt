@@ -12,6 +12,9 @@
 //   number 1: class + 4 * length of the name + 2^18 * arity + 2^34 * number + 2^50 * level
 //   number 2: next row of the bucket + 2^14 * head + 2^30 * place of the name's field + 2^45 * kind + 2^48 * bindings before it
 //   number 3: a definition's tail set; what a note keeps
+
+#![tactic(auto)]
+
 ghost use Rattle.std.specs.Prelude.{◌≡◌, ℕ, ◌+◌, ◌-◌, ◌*◌, ◌≤◌, ◌<◌, length, get_or, set};
 ghost use Rattle.tree.specs.Rose.{end_of, text_of};
 ghost use Rattle.reads.specs.Bytes.{head_of};

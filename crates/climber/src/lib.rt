@@ -1,6 +1,9 @@
 // Precedence climbing, as in prec_climb.rs: which operands does each operator of a row take? The Rust builds a tree from
 // the operands that it is handed; here the operands are numbers, and the answer is the first and the last one of each
 // operator. For 1 + 2 * 3 - 4, the operands being 0 to 3: `+` takes 0 to 2, `*` takes 1 to 2, `-` takes 0 to 3.
+
+#![tactic(auto)]
+
 ghost use Rattle.std.specs.Prelude.{◌≡◌, ℕ, ◌+◌, ◌-◌, ◌*◌, ◌/◌, ◌≤◌, ◌<◌, ◌^◌, length};
 ghost use Rattle.fields.specs.Outcome.{Answers};
 ghost use Rattle.climber.specs.Row.{count};

@@ -1,5 +1,8 @@
 // The entries for callers in other languages, in one static library. Each takes its input and the room that is lent for
 // the listing, and gives its answer in one word: number + length * 2^8 + place * 2^40.
+
+#![tactic(auto)]
+
 ghost use Rattle.std.specs.Prelude.{◌≡◌, ◌<◌, ◌^◌};
 ghost use Rattle.climber.specs.Climbing.{climbing};
 ghost use Rattle.lexer.specs.Lexing.{lexing};

@@ -1,6 +1,9 @@
 // The byte forms that every entry stands on: numbers in little-endian bytes, a field, a run of bytes put into lent room,
 // and the answer that each entry gives. What is written is written only where there is room for it, and the next offset
 // is always returned: over an empty room the same code counts.
+
+#![tactic(auto)]
+
 ghost use Rattle.std.specs.Prelude.{◌≡◌, ◌+◌, ◌≤◌, ◌<◌, ◌^◌, [], ◌∷◌, ◌++◌, length};
 ghost use Rattle.fields.specs.Number.{number};
 ghost use Rattle.fields.specs.Field.{field};

@@ -1,4 +1,7 @@
 // What a name means: the row of a binding in view, a module's definition, a native, or nothing.
+
+#![tactic(auto)]
+
 pub mod under; // under.rt: the width of a term with definitions
 
 ghost use Rattle.std.specs.Prelude.{◌≡◌, cond, ℕ, ◌+◌, ◌-◌, ◌*◌, ◌^◌, ◌≤◌, ◌<◌, length};

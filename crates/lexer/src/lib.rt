@@ -3,6 +3,9 @@
 // A refusal changes no lent byte, and whether a listing fits is known only at its end. So the tokens are first read into
 // scratch of the entry's own, which need not be large enough: what does not fit there is counted, and read again straight
 // into the room lent. Errors are counted in the first reading and put by a second.
+
+#![tactic(auto)]
+
 mod class;
 mod cycle;
 mod escape;

@@ -7,6 +7,9 @@
 // case that is cut short, has an unknown entry or asks for a longer room than there is, or of an end with bytes behind it.
 // Proved is, beside that nothing is read past the sample's end: where no mismatch is counted, each recorded case is what the
 // definition of its entry gives (`replay`), and a case that is counted as a mismatch is not (`show`).
+
+#![tactic(auto)]
+
 ghost use Rattle.std.specs.Prelude.{◌≡◌, ◌+◌, ◌≤◌, ◌<◌, ◌^◌, length, take};
 ghost use Rattle.replay.specs.Case.{number_at, record_of, room_of, Whole};
 ghost use Rattle.replay.specs.Lent.{pattern_at, Patterned, due_at, Left, Tells};

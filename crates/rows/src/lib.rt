@@ -1,4 +1,7 @@
 // Rows of bindings that come into view: parameters, definitions, the variables of patterns.
+
+#![tactic(auto)]
+
 ghost use Rattle.std.specs.Prelude.{◌≡◌, cond, ℕ, ◌+◌, ◌-◌, ◌*◌, ◌≤◌, ◌<◌, eqb, length, get_or, set};
 ghost use Rattle.tree.specs.Rose.{end_of, text_of};
 ghost use Rattle.tree.specs.Tree.{Pattern};

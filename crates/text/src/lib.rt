@@ -1,5 +1,8 @@
 // Text as bytes: valid UTF-8, the character at a place, White_Space, and the bytes of a character.
 // Every public function answers on any bytes, any place and any number.
+
+#![tactic(auto)]
+
 ghost use Rattle.std.specs.Prelude.{◌≡◌, [], ◌∷◌, cond, ◌+◌, ◌-◌, ◌%◌, ◌^◌, ◌<◌, ◌≤◌, length, drop, get_or};
 ghost use Rattle.text.specs.Ranges.{◌‥◌, starts};
 ghost use Rattle.text.specs.Utf8.{seq_len, char_at, is_scalar, utf8, two, three, four};

@@ -1,5 +1,8 @@
 // The check of tree bytes. Every header is looked at once as a member of the field that it stands in and once by itself, with no stack: so a tree that
 // nests thousands deep is told from one that is not well formed, and nothing grows with the depth. Only then are nesting and module numbers looked at.
+
+#![tactic(auto)]
+
 mod table;
 
 ghost use Rattle.std.specs.Prelude.{◌≡◌, List, [], ℕ, ◌+◌, ◌-◌, ◌*◌, ◌/◌, ◌%◌, ◌≤◌, ◌<◌, eqb, length, get_or, take, drop};
