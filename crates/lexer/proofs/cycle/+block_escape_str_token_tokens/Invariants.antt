@@ -1,0 +1,1 @@
+use Rattle.lexer.proofs.cycle/+block_escape_str_token_tokens.Given as goal
