@@ -1,0 +1,26 @@
+-- `params` meets its contract. Assumes nothing.
+use native.Mathlib.Omega.{arith}
+use Prim.Native.Nat.{◌-◌}
+use Rattle.reads.proofs.Rows.{pass-start, pass_fits, pass-more, pass-done}
+use Rattle.reads.proofs.bytes.params.Goals as goal
+
+pub loop-p-init : goal.loop-p-init
+loop-p-init c = pass-start _ _
+
+pub bounds-b-p : goal.bounds-b-p
+bounds-b-p c = let s = c.requires in omega (arith, pass_fits _ _ _ _ c.loop-p.invariant _ _ _ s.3 s.4)
+
+pub end_of-p-requires : goal.end_of-p-requires
+end_of-p-requires c = let s = c.requires in pass_fits _ _ _ _ c.loop-p.invariant _ _ _ s.3 s.4
+
+pub overflow_add-i : goal.overflow_add-i
+overflow_add-i c = let s = c.requires in omega (arith, c.loop-p.invariant.few, pass_fits _ _ _ _ c.loop-p.invariant _ _ _ s.3 s.4)
+
+pub loop-p-smaller : goal.loop-p-smaller
+loop-p-smaller c = let s = c.requires in omega (arith, pass_fits _ _ _ _ c.loop-p.invariant _ _ _ s.3 s.4)
+
+pub loop-p-preserved : goal.loop-p-preserved
+loop-p-preserved c = pass-more _ _ _ _ _ c.loop-p.invariant c.loop-p-test.true c.end_of-p.ensures
+
+pub returns : goal.returns
+returns c = pass-done _ _ _ _ c.loop-p.invariant c.loop-p-test.false
