@@ -102,6 +102,7 @@ module _ (b s : List ℕ) (x : Text) (w key j i : ℕ) where
 
 below_in : (h : ℕ) (js : List ℕ) (j : ℕ) → Below h js → Member j js → j < h
 unfolding Below
+below_in h [] j w x'' = elim x'' [ ]
 below_in h (i ∷ js) j w (inl e) = omega (arith, w.0)
 below_in h (i ∷ js) j w (inr m) = omega (arith, w.0, below_in i js j w.1 m)
 

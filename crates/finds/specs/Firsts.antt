@@ -90,6 +90,7 @@ bound-first s lo n h =
     subst (λ (k : ℕ). bound s lo k ≡ bound s (suc lo) n ++ (lo ∷ [])) (sym e) (bound-split s lo 1 n ∙ u)
 
 pub member-left : (j : ℕ) (xs ys : List ℕ) → Member j xs → Member j (xs ++ ys)
+member-left j [] ys x' = elim x' [ ]
 member-left j (x ∷ xs) ys (inl e) = inl e
 member-left j (x ∷ xs) ys (inr m) = inr (member-left j xs ys m)
 
