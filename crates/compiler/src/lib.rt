@@ -38,7 +38,7 @@ use reads::{bytes, width};
 
 // "`iterm` reserves its number before what it contains": the term at p has the next number, and its record stands at the next offset. What it returns,
 // of the calls that are allowed.
-#[cycle(args_arr_binary_binop_bound_call_def_defs_entries_fold_ite_items_iterm_keyed_label_neg_obj_obj_entry_open_def_or_empty_other_own_key_own_var_pairs_part_parts_path_pattern_pipe_piped_project_quoted_string_strings_term_trial_under_update)]
+#[cycle(compiling)]
 pub fn iterm(
     tree: &[u8],
     p: usize,
@@ -63,7 +63,7 @@ pub fn iterm(
 }
 
 // The term at p, whose own number is reserved or will be; its own record stands at o.
-#[cycle(args_arr_binary_binop_bound_call_def_defs_entries_fold_ite_items_iterm_keyed_label_neg_obj_obj_entry_open_def_or_empty_other_own_key_own_var_pairs_part_parts_path_pattern_pipe_piped_project_quoted_string_strings_term_trial_under_update)]
+#[cycle(compiling)]
 fn term(
     tree: &[u8],
     p: usize,
@@ -166,7 +166,7 @@ fn supplied(tree: &[u8], rows: &[u64], x: &[u8], at: usize, st: &mut [usize; 3],
 }
 
 // "Absent array body or catch is a call of `!empty`, arity 0": the term from q up to z, or that call.
-#[cycle(args_arr_binary_binop_bound_call_def_defs_entries_fold_ite_items_iterm_keyed_label_neg_obj_obj_entry_open_def_or_empty_other_own_key_own_var_pairs_part_parts_path_pattern_pipe_piped_project_quoted_string_strings_term_trial_under_update)]
+#[cycle(compiling)]
 fn or_empty(
     tree: &[u8],
     q: usize,
@@ -186,7 +186,7 @@ fn or_empty(
     supplied(tree, rows, b"!empty", 0, st, out);
 }
 
-#[cycle(args_arr_binary_binop_bound_call_def_defs_entries_fold_ite_items_iterm_keyed_label_neg_obj_obj_entry_open_def_or_empty_other_own_key_own_var_pairs_part_parts_path_pattern_pipe_piped_project_quoted_string_strings_term_trial_under_update)]
+#[cycle(compiling)]
 fn arr(
     tree: &[u8],
     p: usize,
@@ -206,7 +206,7 @@ fn arr(
     0
 }
 
-#[cycle(args_arr_binary_binop_bound_call_def_defs_entries_fold_ite_items_iterm_keyed_label_neg_obj_obj_entry_open_def_or_empty_other_own_key_own_var_pairs_part_parts_path_pattern_pipe_piped_project_quoted_string_strings_term_trial_under_update)]
+#[cycle(compiling)]
 fn neg(
     tree: &[u8],
     p: usize,
@@ -226,7 +226,7 @@ fn neg(
     0
 }
 
-#[cycle(args_arr_binary_binop_bound_call_def_defs_entries_fold_ite_items_iterm_keyed_label_neg_obj_obj_entry_open_def_or_empty_other_own_key_own_var_pairs_part_parts_path_pattern_pipe_piped_project_quoted_string_strings_term_trial_under_update)]
+#[cycle(compiling)]
 fn label(
     tree: &[u8],
     p: usize,
@@ -249,7 +249,7 @@ fn label(
     0
 }
 
-#[cycle(args_arr_binary_binop_bound_call_def_defs_entries_fold_ite_items_iterm_keyed_label_neg_obj_obj_entry_open_def_or_empty_other_own_key_own_var_pairs_part_parts_path_pattern_pipe_piped_project_quoted_string_strings_term_trial_under_update)]
+#[cycle(compiling)]
 fn trial(
     tree: &[u8],
     p: usize,
@@ -274,7 +274,7 @@ fn trial(
 // ---- conditionals
 
 // After a row of siblings: the row after theirs, the place after them, and what they return.
-#[derive(Drop)]
+#[derive(Clone, Copy)]
 pub struct Run {
     pub k: usize,
     pub q: usize,
@@ -282,7 +282,7 @@ pub struct Run {
 }
 
 // "Conditions and branches first": the pairs from q on; a note for each has both numbers.
-#[cycle(args_arr_binary_binop_bound_call_def_defs_entries_fold_ite_items_iterm_keyed_label_neg_obj_obj_entry_open_def_or_empty_other_own_key_own_var_pairs_part_parts_path_pattern_pipe_piped_project_quoted_string_strings_term_trial_under_update)]
+#[cycle(compiling)]
 fn pairs(
     tree: &[u8],
     q: usize,
@@ -315,7 +315,7 @@ fn pairs(
 }
 
 // "then what else holds": its record stands behind what it contains, and has the next number then. "Absent else is Id."
-#[cycle(args_arr_binary_binop_bound_call_def_defs_entries_fold_ite_items_iterm_keyed_label_neg_obj_obj_entry_open_def_or_empty_other_own_key_own_var_pairs_part_parts_path_pattern_pipe_piped_project_quoted_string_strings_term_trial_under_update)]
+#[cycle(compiling)]
 fn other(
     tree: &[u8],
     q: usize,
@@ -335,7 +335,7 @@ fn other(
     bare(st, out, state::LATE, 0x50)
 }
 
-#[cycle(args_arr_binary_binop_bound_call_def_defs_entries_fold_ite_items_iterm_keyed_label_neg_obj_obj_entry_open_def_or_empty_other_own_key_own_var_pairs_part_parts_path_pattern_pipe_piped_project_quoted_string_strings_term_trial_under_update)]
+#[cycle(compiling)]
 fn ite(
     tree: &[u8],
     p: usize,
@@ -360,7 +360,7 @@ fn ite(
 
 // ---- operators
 
-#[cycle(args_arr_binary_binop_bound_call_def_defs_entries_fold_ite_items_iterm_keyed_label_neg_obj_obj_entry_open_def_or_empty_other_own_key_own_var_pairs_part_parts_path_pattern_pipe_piped_project_quoted_string_strings_term_trial_under_update)]
+#[cycle(compiling)]
 fn binary(
     tree: &[u8],
     p: usize,
@@ -405,7 +405,7 @@ fn right_set(x: u8, allowed: u64) -> u64
 }
 
 // An operator other than Pipe, whose field is at q.
-#[cycle(args_arr_binary_binop_bound_call_def_defs_entries_fold_ite_items_iterm_keyed_label_neg_obj_obj_entry_open_def_or_empty_other_own_key_own_var_pairs_part_parts_path_pattern_pipe_piped_project_quoted_string_strings_term_trial_under_update)]
+#[cycle(compiling)]
 fn binop(
     tree: &[u8],
     p: usize,
@@ -432,7 +432,7 @@ fn binop(
 }
 
 // A Pipe without a pattern.
-#[cycle(args_arr_binary_binop_bound_call_def_defs_entries_fold_ite_items_iterm_keyed_label_neg_obj_obj_entry_open_def_or_empty_other_own_key_own_var_pairs_part_parts_path_pattern_pipe_piped_project_quoted_string_strings_term_trial_under_update)]
+#[cycle(compiling)]
 fn pipe(
     tree: &[u8],
     p: usize,
@@ -457,7 +457,7 @@ fn pipe(
 }
 
 // "Order in Pipe: left, right under the pattern variables, then the pattern."
-#[cycle(args_arr_binary_binop_bound_call_def_defs_entries_fold_ite_items_iterm_keyed_label_neg_obj_obj_entry_open_def_or_empty_other_own_key_own_var_pairs_part_parts_path_pattern_pipe_piped_project_quoted_string_strings_term_trial_under_update)]
+#[cycle(compiling)]
 fn piped(
     tree: &[u8],
     p: usize,
@@ -484,7 +484,7 @@ fn piped(
 }
 
 // The right of a Pipe, whose operator field is at q, under the variables of its pattern.
-#[cycle(args_arr_binary_binop_bound_call_def_defs_entries_fold_ite_items_iterm_keyed_label_neg_obj_obj_entry_open_def_or_empty_other_own_key_own_var_pairs_part_parts_path_pattern_pipe_piped_project_quoted_string_strings_term_trial_under_update)]
+#[cycle(compiling)]
 fn under(
     tree: &[u8],
     q: usize,
@@ -508,7 +508,7 @@ fn under(
 
 // The pattern at q, whose key has the number n: what its keys insert, "object keys see none of them" (the variables). A note for each pattern has its
 // key's number and, of a variable, its place. The row after them.
-#[cycle(args_arr_binary_binop_bound_call_def_defs_entries_fold_ite_items_iterm_keyed_label_neg_obj_obj_entry_open_def_or_empty_other_own_key_own_var_pairs_part_parts_path_pattern_pipe_piped_project_quoted_string_strings_term_trial_under_update)]
+#[cycle(compiling)]
 fn pattern(
     tree: &[u8],
     q: usize,
@@ -534,7 +534,7 @@ fn pattern(
 }
 
 // "Array keys are Int terms from 0, each before its pattern."
-#[cycle(args_arr_binary_binop_bound_call_def_defs_entries_fold_ite_items_iterm_keyed_label_neg_obj_obj_entry_open_def_or_empty_other_own_key_own_var_pairs_part_parts_path_pattern_pipe_piped_project_quoted_string_strings_term_trial_under_update)]
+#[cycle(compiling)]
 fn items(
     tree: &[u8],
     q: usize,
@@ -561,7 +561,7 @@ fn items(
 }
 
 // The entries of an object pattern: each a key and a pattern.
-#[cycle(args_arr_binary_binop_bound_call_def_defs_entries_fold_ite_items_iterm_keyed_label_neg_obj_obj_entry_open_def_or_empty_other_own_key_own_var_pairs_part_parts_path_pattern_pipe_piped_project_quoted_string_strings_term_trial_under_update)]
+#[cycle(compiling)]
 fn keyed(
     tree: &[u8],
     q: usize,
@@ -588,7 +588,7 @@ fn keyed(
 // ---- folds
 
 // "Fold: source, pattern, init, update, projection; update and projection under the variables."
-#[cycle(args_arr_binary_binop_bound_call_def_defs_entries_fold_ite_items_iterm_keyed_label_neg_obj_obj_entry_open_def_or_empty_other_own_key_own_var_pairs_part_parts_path_pattern_pipe_piped_project_quoted_string_strings_term_trial_under_update)]
+#[cycle(compiling)]
 fn fold(
     tree: &[u8],
     p: usize,
@@ -626,14 +626,14 @@ fn fold(
     u.tail
 }
 
-#[derive(Drop)]
+#[derive(Clone, Copy)]
 pub struct Updated {
     pub n: usize,
     pub tail: u64,
 }
 
 // Update and projection under the variables, whose notes are rows k up to i. The number of the projection, if there is one, and what it returns.
-#[cycle(args_arr_binary_binop_bound_call_def_defs_entries_fold_ite_items_iterm_keyed_label_neg_obj_obj_entry_open_def_or_empty_other_own_key_own_var_pairs_part_parts_path_pattern_pipe_piped_project_quoted_string_strings_term_trial_under_update)]
+#[cycle(compiling)]
 fn update(
     tree: &[u8],
     p: usize,
@@ -658,7 +658,7 @@ fn update(
 }
 
 // "`reduce` needs two, `foreach` two or three; any other name or count fails likewise after update, compiling no more."
-#[cycle(args_arr_binary_binop_bound_call_def_defs_entries_fold_ite_items_iterm_keyed_label_neg_obj_obj_entry_open_def_or_empty_other_own_key_own_var_pairs_part_parts_path_pattern_pipe_piped_project_quoted_string_strings_term_trial_under_update)]
+#[cycle(compiling)]
 fn project(
     tree: &[u8],
     p: usize,
@@ -691,7 +691,7 @@ fn project(
 
 // ---- paths
 
-#[cycle(args_arr_binary_binop_bound_call_def_defs_entries_fold_ite_items_iterm_keyed_label_neg_obj_obj_entry_open_def_or_empty_other_own_key_own_var_pairs_part_parts_path_pattern_pipe_piped_project_quoted_string_strings_term_trial_under_update)]
+#[cycle(compiling)]
 fn path(
     tree: &[u8],
     p: usize,
@@ -716,7 +716,7 @@ fn path(
 }
 
 // The parts of a path from q up to z; a note for each has its numbers. The row after them.
-#[cycle(args_arr_binary_binop_bound_call_def_defs_entries_fold_ite_items_iterm_keyed_label_neg_obj_obj_entry_open_def_or_empty_other_own_key_own_var_pairs_part_parts_path_pattern_pipe_piped_project_quoted_string_strings_term_trial_under_update)]
+#[cycle(compiling)]
 fn parts(
     tree: &[u8],
     q: usize,
@@ -740,7 +740,7 @@ fn parts(
 }
 
 // "a range's start before its end"
-#[cycle(args_arr_binary_binop_bound_call_def_defs_entries_fold_ite_items_iterm_keyed_label_neg_obj_obj_entry_open_def_or_empty_other_own_key_own_var_pairs_part_parts_path_pattern_pipe_piped_project_quoted_string_strings_term_trial_under_update)]
+#[cycle(compiling)]
 fn part(tree: &[u8], q: usize, rows: &mut [u64], k: usize, st: &mut [usize; 3], out: &mut [u8])
     requires { Ready tree.now rows.old k q (end_of tree.now q) st.old × ((x : Part) × Row tree.now (rcons (f_part x) rnil) q (end_of tree.now q)) }
     ensures { PartIs tree.now q rows.old rows.new k st.old st.new out.old out.new }
@@ -767,7 +767,7 @@ fn part(tree: &[u8], q: usize, rows: &mut [u64], k: usize, st: &mut [usize; 3], 
 }
 
 // From (C1) or upto (C2) at q, if it stands there.
-#[cycle(args_arr_binary_binop_bound_call_def_defs_entries_fold_ite_items_iterm_keyed_label_neg_obj_obj_entry_open_def_or_empty_other_own_key_own_var_pairs_part_parts_path_pattern_pipe_piped_project_quoted_string_strings_term_trial_under_update)]
+#[cycle(compiling)]
 fn bound(
     tree: &[u8],
     q: usize,
@@ -789,7 +789,7 @@ fn bound(
 
 // ---- strings
 
-#[cycle(args_arr_binary_binop_bound_call_def_defs_entries_fold_ite_items_iterm_keyed_label_neg_obj_obj_entry_open_def_or_empty_other_own_key_own_var_pairs_part_parts_path_pattern_pipe_piped_project_quoted_string_strings_term_trial_under_update)]
+#[cycle(compiling)]
 fn quoted(
     tree: &[u8],
     p: usize,
@@ -840,7 +840,7 @@ fn format(tree: &[u8], p: usize, q: usize, rows: &[u64], st: &mut [usize; 3], ou
 }
 
 // The parts of a string from q up to z; a note for each has its place and, of a term, its number. The row after them.
-#[cycle(args_arr_binary_binop_bound_call_def_defs_entries_fold_ite_items_iterm_keyed_label_neg_obj_obj_entry_open_def_or_empty_other_own_key_own_var_pairs_part_parts_path_pattern_pipe_piped_project_quoted_string_strings_term_trial_under_update)]
+#[cycle(compiling)]
 fn strings(
     tree: &[u8],
     q: usize,
@@ -865,7 +865,7 @@ fn strings(
     i
 }
 
-#[cycle(args_arr_binary_binop_bound_call_def_defs_entries_fold_ite_items_iterm_keyed_label_neg_obj_obj_entry_open_def_or_empty_other_own_key_own_var_pairs_part_parts_path_pattern_pipe_piped_project_quoted_string_strings_term_trial_under_update)]
+#[cycle(compiling)]
 fn string(tree: &[u8], q: usize, rows: &mut [u64], k: usize, st: &mut [usize; 3], out: &mut [u8])
     requires { Ready tree.now rows.old k q (end_of tree.now q) st.old × ((x : StrPart) × Row tree.now (rcons (f_str_part x) rnil) q (end_of tree.now q)) }
     ensures { StringIs tree.now q rows.old rows.new k st.old st.new out.old out.new }
@@ -882,7 +882,7 @@ fn string(tree: &[u8], q: usize, rows: &mut [u64], k: usize, st: &mut [usize; 3]
 
 // ---- objects
 
-#[cycle(args_arr_binary_binop_bound_call_def_defs_entries_fold_ite_items_iterm_keyed_label_neg_obj_obj_entry_open_def_or_empty_other_own_key_own_var_pairs_part_parts_path_pattern_pipe_piped_project_quoted_string_strings_term_trial_under_update)]
+#[cycle(compiling)]
 fn obj(
     tree: &[u8],
     p: usize,
@@ -904,7 +904,7 @@ fn obj(
 }
 
 // The entries of an object from q up to z; a note for each has the numbers of key and value. The row after them.
-#[cycle(args_arr_binary_binop_bound_call_def_defs_entries_fold_ite_items_iterm_keyed_label_neg_obj_obj_entry_open_def_or_empty_other_own_key_own_var_pairs_part_parts_path_pattern_pipe_piped_project_quoted_string_strings_term_trial_under_update)]
+#[cycle(compiling)]
 fn entries(
     tree: &[u8],
     q: usize,
@@ -927,7 +927,7 @@ fn entries(
     i
 }
 
-#[cycle(args_arr_binary_binop_bound_call_def_defs_entries_fold_ite_items_iterm_keyed_label_neg_obj_obj_entry_open_def_or_empty_other_own_key_own_var_pairs_part_parts_path_pattern_pipe_piped_project_quoted_string_strings_term_trial_under_update)]
+#[cycle(compiling)]
 fn obj_entry(tree: &[u8], q: usize, rows: &mut [u64], k: usize, st: &mut [usize; 3], out: &mut [u8])
     requires { Ready tree.now rows.old k q (end_of tree.now q) st.old × ((t : Term) × (v : OptTerm) × EntryAt tree.now q t v) }
     ensures { EntryIs tree.now q rows.old rows.new k st.old st.new out.old out.new }
@@ -948,7 +948,7 @@ fn obj_entry(tree: &[u8], q: usize, rows: &mut [u64], k: usize, st: &mut [usize;
 }
 
 // "Entry `$x` alone has key `x`": the name less its first byte, then the variable.
-#[cycle(args_arr_binary_binop_bound_call_def_defs_entries_fold_ite_items_iterm_keyed_label_neg_obj_obj_entry_open_def_or_empty_other_own_key_own_var_pairs_part_parts_path_pattern_pipe_piped_project_quoted_string_strings_term_trial_under_update)]
+#[cycle(compiling)]
 fn own_var(tree: &[u8], p: usize, rows: &mut [u64], k: usize, st: &mut [usize; 3], out: &mut [u8])
     requires { ((q : ℕ) × (q + 3 ≤ p) × Ready tree.now rows.old k q (end_of tree.now p) st.old) × Stands tree.now p × (get_or tree.now p 0 ≡ 0xA7) }
     ensures { LoneIs tree.now p rows.old rows.new k st.old st.new out.old out.new }
@@ -961,7 +961,7 @@ fn own_var(tree: &[u8], p: usize, rows: &mut [u64], k: usize, st: &mut [usize; 3
 }
 
 // "other lone keys read themselves from Id: key, Id, then a Path, not optional"
-#[cycle(args_arr_binary_binop_bound_call_def_defs_entries_fold_ite_items_iterm_keyed_label_neg_obj_obj_entry_open_def_or_empty_other_own_key_own_var_pairs_part_parts_path_pattern_pipe_piped_project_quoted_string_strings_term_trial_under_update)]
+#[cycle(compiling)]
 fn own_key(tree: &[u8], p: usize, rows: &mut [u64], k: usize, st: &mut [usize; 3], out: &mut [u8])
     requires { Ready tree.now rows.old k p (end_of tree.now p) st.old × Stands tree.now p × (get_or tree.now p 0 ≡ 0xA7 → ⊥) }
     ensures { LoneIs tree.now p rows.old rows.new k st.old st.new out.old out.new }
@@ -985,7 +985,7 @@ fn meaning(tree: &[u8], rows: &[u64], k: usize, x: &[u8], at: usize, a: usize) -
 }
 
 // "Arguments are compiled before lookup": the name means the same before, and its error stands after theirs.
-#[cycle(args_arr_binary_binop_bound_call_def_defs_entries_fold_ite_items_iterm_keyed_label_neg_obj_obj_entry_open_def_or_empty_other_own_key_own_var_pairs_part_parts_path_pattern_pipe_piped_project_quoted_string_strings_term_trial_under_update)]
+#[cycle(compiling)]
 fn call(
     tree: &[u8],
     p: usize,
@@ -1010,7 +1010,7 @@ fn call(
 }
 
 // The a arguments from q on; a note for each has its number.
-#[cycle(args_arr_binary_binop_bound_call_def_defs_entries_fold_ite_items_iterm_keyed_label_neg_obj_obj_entry_open_def_or_empty_other_own_key_own_var_pairs_part_parts_path_pattern_pipe_piped_project_quoted_string_strings_term_trial_under_update)]
+#[cycle(compiling)]
 fn args(
     tree: &[u8],
     q: usize,
@@ -1048,7 +1048,7 @@ fn reserve_def(tree: &[u8], p: usize, rows: &[u64], st: &mut [usize; 3], o: usiz
 }
 
 // Definitions, then a term under them, which has the same number.
-#[cycle(args_arr_binary_binop_bound_call_def_defs_entries_fold_ite_items_iterm_keyed_label_neg_obj_obj_entry_open_def_or_empty_other_own_key_own_var_pairs_part_parts_path_pattern_pipe_piped_project_quoted_string_strings_term_trial_under_update)]
+#[cycle(compiling)]
 fn def(
     tree: &[u8],
     p: usize,
@@ -1071,7 +1071,7 @@ fn def(
 }
 
 // The definitions from q on, each a row in view.
-#[cycle(args_arr_binary_binop_bound_call_def_defs_entries_fold_ite_items_iterm_keyed_label_neg_obj_obj_entry_open_def_or_empty_other_own_key_own_var_pairs_part_parts_path_pattern_pipe_piped_project_quoted_string_strings_term_trial_under_update)]
+#[cycle(compiling)]
 fn defs(
     tree: &[u8],
     q: usize,
@@ -1100,7 +1100,7 @@ fn defs(
 
 // The definition at q, with the next number: "a body may return calls of itself and of what its place allows". Row k is then the definition, with what
 // its body returns.
-#[cycle(args_arr_binary_binop_bound_call_def_defs_entries_fold_ite_items_iterm_keyed_label_neg_obj_obj_entry_open_def_or_empty_other_own_key_own_var_pairs_part_parts_path_pattern_pipe_piped_project_quoted_string_strings_term_trial_under_update)]
+#[cycle(compiling)]
 pub fn open_def(
     tree: &[u8],
     q: usize,

@@ -10,7 +10,7 @@ ghost use Rattle.fields.specs.Field.{field};
 ghost use Rattle.fields.specs.Room.{overlay};
 
 // What every call gives: document 01's result number, the length written and a place.
-#[derive(Drop)]
+#[derive(Clone, Copy)]
 pub struct Answer {
     pub number: u8,
     pub length: usize,

@@ -56,7 +56,7 @@ pub fn find(tree: &[u8], rows: &[u64], x: &[u8], class: u64) -> usize
 }
 
 // What a call means: a row j, or an error with the place and the length of the name that it is of.
-#[derive(Drop)]
+#[derive(Clone, Copy)]
 pub struct Found {
     pub kind: u8,
     pub j: usize,

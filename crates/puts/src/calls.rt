@@ -5,7 +5,7 @@ ghost use Rattle.rules.specs.Table.{kind_number};
 ghost use Rattle.rules.specs.Tails.{bit, parent, sibling, local_call, module_kind};
 
 // "The four call kinds keep fixed numbers"
-#[derive(Drop)]
+#[derive(Clone, Copy)]
 pub struct CallType {
     pub number: u8,
 }
@@ -52,7 +52,7 @@ impl CallType {
     }
 }
 
-#[derive(Drop)]
+#[derive(Clone, Copy)]
 pub struct Jump {
     pub call: CallType,
     pub tail: u64,

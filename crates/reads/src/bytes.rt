@@ -57,7 +57,7 @@ pub fn members(b: &[u8], q: usize, z: usize) -> usize
 }
 
 // Parameters from q on: how many, and the place after them. A term follows them, whose tag is no parameter's.
-#[derive(Drop)]
+#[derive(Clone, Copy)]
 pub struct Sig {
     pub a: usize,
     pub q: usize,

@@ -106,7 +106,7 @@ pub fn binary_width(b: &[u8], p: usize) -> usize
 
 // A fold: the places of source, pattern, init and update, how many arguments it has, what it is (0 reduce, 1 foreach, 2 foreach with a projection,
 // 3 none), and the length of its record.
-#[derive(Drop)]
+#[derive(Clone, Copy)]
 pub struct Fold {
     pub x: usize,
     pub q: usize,

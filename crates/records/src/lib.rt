@@ -111,7 +111,7 @@ pub fn put_op(out: &mut [u8], o: usize, x: u8, a: usize, b: usize)
 // ---- patterns
 
 // Where a pattern within a record ends, and the row after its notes.
-#[derive(Drop)]
+#[derive(Clone, Copy)]
 pub struct Spot {
     pub o: usize,
     pub k: usize,

@@ -20,14 +20,14 @@ use fields::Answer;
 use libc::{STDIN_FILENO, STDOUT_FILENO};
 
 // What a call by an entry's byte gives.
-#[derive(Drop)]
+#[derive(Clone, Copy)]
 enum Called {
     Gave(Answer),
     Unknown,
 }
 
 // What replaying a case shows: that it holds, that it does not, or that its entry is unknown.
-#[derive(Drop)]
+#[derive(Clone, Copy)]
 enum Shown {
     Same,
     Other,

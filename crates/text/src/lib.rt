@@ -11,7 +11,7 @@ ghost use Rattle.text.specs.Along.{Along, highs};
 ghost use Rattle.text.specs.Space.{white_space};
 
 // A character that was read: its code point, and how many bytes it takes. A length of 0 says that there was none.
-#[derive(Drop)]
+#[derive(Clone, Copy)]
 pub struct Char {
     pub code: u32,
     pub len: usize,

@@ -201,7 +201,7 @@ fn leaf_ok(b: &[u8], p: usize, e: usize, s: usize) -> bool
 // ---- all headers
 
 // What the pass over all headers found: whether each is right; how many fields have members, and how many of them are definitions.
-#[derive(Drop)]
+#[derive(Clone, Copy)]
 struct Found {
     ok: bool,
     nodes: usize,

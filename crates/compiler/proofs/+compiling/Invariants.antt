@@ -1,0 +1,174 @@
+use Prim.Native.Nat.{◌+◌, ◌-◌, ◌*◌}
+use Rattle.compiler.specs.FormsD.Args.{Passing}
+use lib.ListN.{length}
+use Rattle.compiler.specs.FormsA.Pairs.{Pairing}
+use Rattle.compiler.specs.FormsB.Members as mems
+use Prim.Native.Nat.{◌-◌}
+use Rattle.compiler.specs.FormsC.Paths as forms_paths
+use Rattle.compiler.specs.FormsD.Defs.{Scoping}
+use Rattle.compiler.specs.FormsC.Objects as forms_objects
+use Prim.Native.Nat.{◌+◌, ◌-◌}
+use Rattle.compiler.specs.FormsC.Strings as forms_strings
+use Rattle.compiler.proofs.+compiling.Given as goal
+
+abbrev pub decreases-args : goal.decreases-args
+decreases-args l = 16 * (length l.tree.now - l.q) + 5
+
+abbrev pub decreases-arr : goal.decreases-arr
+decreases-arr l = 16 * (length l.tree.now - l.p) + 0
+
+abbrev pub decreases-binary : goal.decreases-binary
+decreases-binary l = 16 * (length l.tree.now - l.p) + 1
+
+abbrev pub decreases-binop : goal.decreases-binop
+decreases-binop l = 16 * (length l.tree.now - l.p) + 0
+
+abbrev pub decreases-bound : goal.decreases-bound
+decreases-bound l = 16 * (length l.tree.now - l.q) + 0
+
+abbrev pub decreases-call : goal.decreases-call
+decreases-call l = 16 * (length l.tree.now - l.p) + 0
+
+abbrev pub decreases-def : goal.decreases-def
+decreases-def l = 16 * (length l.tree.now - l.p) + 0
+
+abbrev pub decreases-defs : goal.decreases-defs
+decreases-defs l = 16 * (length l.tree.now - l.q) + 1
+
+abbrev pub decreases-entries : goal.decreases-entries
+decreases-entries l = 16 * (length l.tree.now - l.q) + 1
+
+abbrev pub decreases-fold : goal.decreases-fold
+decreases-fold l = 16 * (length l.tree.now - l.p) + 2
+
+abbrev pub decreases-ite : goal.decreases-ite
+decreases-ite l = 16 * (length l.tree.now - l.p) + 0
+
+abbrev pub decreases-items : goal.decreases-items
+decreases-items l = 16 * (length l.tree.now - l.q) + 0
+
+abbrev pub decreases-iterm : goal.decreases-iterm
+decreases-iterm l = 16 * (length l.tree.now - l.p) + 4
+
+abbrev pub decreases-keyed : goal.decreases-keyed
+decreases-keyed l = 16 * (length l.tree.now - l.q) + 0
+
+abbrev pub decreases-label : goal.decreases-label
+decreases-label l = 16 * (length l.tree.now - l.p) + 0
+
+abbrev pub decreases-neg : goal.decreases-neg
+decreases-neg l = 16 * (length l.tree.now - l.p) + 0
+
+abbrev pub decreases-obj : goal.decreases-obj
+decreases-obj l = 16 * (length l.tree.now - l.p) + 0
+
+abbrev pub decreases-obj_entry : goal.decreases-obj_entry
+decreases-obj_entry l = 16 * (length l.tree.now - l.q) + 0
+
+abbrev pub decreases-open_def : goal.decreases-open_def
+decreases-open_def l = 16 * (length l.tree.now - l.q) + 0
+
+abbrev pub decreases-or_empty : goal.decreases-or_empty
+decreases-or_empty l = 16 * (length l.tree.now - l.q) + 5
+
+abbrev pub decreases-other : goal.decreases-other
+decreases-other l = 16 * (length l.tree.now - l.q) + 5
+
+abbrev pub decreases-own_key : goal.decreases-own_key
+decreases-own_key l = 16 * (length l.tree.now - l.p) + 5
+
+abbrev pub decreases-own_var : goal.decreases-own_var
+decreases-own_var l = 16 * (length l.tree.now - l.p) + 5
+
+abbrev pub decreases-pairs : goal.decreases-pairs
+decreases-pairs l = 16 * (length l.tree.now - l.q) + 0
+
+abbrev pub decreases-part : goal.decreases-part
+decreases-part l = 16 * (length l.tree.now - l.q) + 0
+
+abbrev pub decreases-parts : goal.decreases-parts
+decreases-parts l = 16 * (length l.tree.now - l.q) + 1
+
+abbrev pub decreases-path : goal.decreases-path
+decreases-path l = 16 * (length l.tree.now - l.p) + 0
+
+abbrev pub decreases-pattern : goal.decreases-pattern
+decreases-pattern l = 16 * (length l.tree.now - l.q) + 1
+
+abbrev pub decreases-pipe : goal.decreases-pipe
+decreases-pipe l = 16 * (length l.tree.now - l.p) + 0
+
+abbrev pub decreases-piped : goal.decreases-piped
+decreases-piped l = 16 * (length l.tree.now - l.p) + 0
+
+abbrev pub decreases-project : goal.decreases-project
+decreases-project l = 16 * (length l.tree.now - l.p) + 0
+
+abbrev pub decreases-quoted : goal.decreases-quoted
+decreases-quoted l = 16 * (length l.tree.now - l.p) + 0
+
+abbrev pub decreases-string : goal.decreases-string
+decreases-string l = 16 * (length l.tree.now - l.q) + 5
+
+abbrev pub decreases-strings : goal.decreases-strings
+decreases-strings l = 16 * (length l.tree.now - l.q) + 6
+
+abbrev pub decreases-term : goal.decreases-term
+decreases-term l = 16 * (length l.tree.now - l.p) + 3
+
+abbrev pub decreases-trial : goal.decreases-trial
+decreases-trial l = 16 * (length l.tree.now - l.p) + 0
+
+abbrev pub decreases-under : goal.decreases-under
+decreases-under l = 16 * (length l.tree.now - l.q) + 0
+
+abbrev pub decreases-update : goal.decreases-update
+decreases-update l = 16 * (length l.tree.now - l.p) + 1
+
+abbrev pub invariant-args-loop-i : goal.invariant-args-loop-i
+invariant-args-loop-i l = Passing l.tree l.q l.a l.initial.rows l.k l.initial.st l.initial.out l.p l.i l.rows l.st l.out
+
+abbrev pub decreases-args-loop-i : goal.decreases-args-loop-i
+decreases-args-loop-i l = l.a - l.i
+
+abbrev pub invariant-defs-loop-p : goal.invariant-defs-loop-p
+invariant-defs-loop-p l = Scoping l.tree l.q l.initial.rows l.k l.initial.st l.initial.out l.allowed l.p l.i l.rows l.st l.out
+
+abbrev pub decreases-defs-loop-p : goal.decreases-defs-loop-p
+decreases-defs-loop-p l = length l.tree - l.p
+
+abbrev pub invariant-entries-loop-p : goal.invariant-entries-loop-p
+invariant-entries-loop-p l = forms_objects.Entering l.tree l.q l.z l.initial.rows l.k l.initial.st l.initial.out l.p l.i l.rows l.st l.out
+
+abbrev pub decreases-entries-loop-p : goal.decreases-entries-loop-p
+decreases-entries-loop-p l = length l.tree - l.p
+
+abbrev pub invariant-items-loop-p : goal.invariant-items-loop-p
+invariant-items-loop-p l = mems.ItemsGo l.tree l.q l.initial.rows l.k l.initial.st l.initial.out l.p l.i l.j l.rows l.st l.out
+
+abbrev pub decreases-items-loop-p : goal.decreases-items-loop-p
+decreases-items-loop-p l = length l.tree - l.p
+
+abbrev pub invariant-keyed-loop-p : goal.invariant-keyed-loop-p
+invariant-keyed-loop-p l = mems.KeyedGo l.tree l.q l.initial.rows l.k l.initial.st l.initial.out l.p l.j l.rows l.st l.out
+
+abbrev pub decreases-keyed-loop-p : goal.decreases-keyed-loop-p
+decreases-keyed-loop-p l = length l.tree - l.p
+
+abbrev pub invariant-pairs-loop-a : goal.invariant-pairs-loop-a
+invariant-pairs-loop-a l = Pairing l.tree l.q l.z l.initial.rows l.k l.initial.st l.initial.out l.allowed l.p l.i l.t l.rows l.st l.out
+
+abbrev pub decreases-pairs-loop-a : goal.decreases-pairs-loop-a
+decreases-pairs-loop-a l = length l.tree - l.p
+
+abbrev pub invariant-parts-loop-p : goal.invariant-parts-loop-p
+invariant-parts-loop-p l = forms_paths.Parting l.tree l.q l.z l.initial.rows l.k l.initial.st l.initial.out l.p l.i l.rows l.st l.out
+
+abbrev pub decreases-parts-loop-p : goal.decreases-parts-loop-p
+decreases-parts-loop-p l = length l.tree - l.p
+
+abbrev pub invariant-strings-loop-p : goal.invariant-strings-loop-p
+invariant-strings-loop-p l = forms_strings.Stringing l.tree l.q l.z l.initial.rows l.k l.initial.st l.initial.out l.p l.i l.rows l.st l.out
+
+abbrev pub decreases-strings-loop-p : goal.decreases-strings-loop-p
+decreases-strings-loop-p l = length l.tree - l.p
