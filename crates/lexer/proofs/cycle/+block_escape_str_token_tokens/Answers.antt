@@ -1,5 +1,4 @@
 use mathlib.Core.Path.{ap, ◌∙◌}
-use Prim.Native.Nat.{◌-◌}
 use native.Mathlib.Omega.{arith}
 use Rattle.lexer.specs.Kind.{kind}
 use Rattle.lexer.proofs.Members as members

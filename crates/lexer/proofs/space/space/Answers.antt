@@ -1,5 +1,4 @@
 -- `space::space` meets its contract: the outer loop over blanks and comments, the inner one over the lines of a comment. Assumes nothing.
-use Prim.Native.Nat.{◌-◌}
 use Rattle.lexer.proofs.Spacing.{begin, on, one-blank, one-comment, no-comment, line_on, line-moves, line-off}
 use native.Mathlib.Omega.{arith}
 use borrow.Author.Rules.{rules}

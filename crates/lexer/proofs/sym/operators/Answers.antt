@@ -1,6 +1,5 @@
 -- `sym::operators` meets its contract. Assumes nothing.
 use mathlib.Core.Path.{sym, ◌∙◌}
-use Prim.Native.Nat.{◌-◌}
 use Rattle.lexer.specs.Sym.{follows}
 use Rattle.lexer.proofs.Past.{start, more, stop, all}
 use borrow.Author.Rules.{rules}
