@@ -1,9 +1,9 @@
 -- Listings of two rows, one after the other. Assumes nothing.
-use mathlib.Core.Path.{◌≡◌, refl, sym, ap, ◌∙◌}
+use mathlib.Core.Path.{◌≡◌, refl}
 use mathlib.Core.List.{List, [], ◌∷◌, ◌++◌, append_assoc}
 use Prim.Native.Nat.{ℕ}
-use Rattle.lexer.specs.Token.{Token, Tokens, none, more, join, Error}
-use Rattle.lexer.specs.Listing.{token_bytes, tokens_bytes, error_bytes, errors_bytes}
+use Rattle.lexer.specs.Token.{Tokens, none, more, join, Error}
+use Rattle.lexer.specs.Listing.{tokens_bytes, errors_bytes}
 
 pub errors-append : (w : ℕ) (es fs : List Error) → errors_bytes w (es ++ fs) ≡ errors_bytes w es ++ errors_bytes w fs
 unfolding errors_bytes

@@ -1,16 +1,15 @@
 -- White space, a character at a time. Assumes nothing.
-use mathlib.Core.Path.{◌≡◌, refl, sym, ap, ◌∙◌}
+use mathlib.Core.Path.{◌≡◌, refl, ◌∙◌}
 use mathlib.Core.Bool.{Bool, true, false, cond, not, beq}
 use mathlib.Core.List.{List, []}
-use Prim.Native.Nat.{ℕ, ◌+◌, ◌-◌, ◌≤◌, ◌<◌}
+use Prim.Native.Nat.{ℕ, ◌+◌, ◌≤◌, ◌<◌}
 use native.Mathlib.Omega.{arith}
-use lib.ListN.{length, drop, get_or, drop_of_length-le, get_or-eq_default}
+use lib.ListN.{length, drop, drop_of_length-le, get_or-eq_default}
 use lib.Dec.{ltb, eqb}
 use borrow.Author.Tests.{ltb-true, ltb-false, eqb-false}
 use Rattle.text.specs.Utf8.{seq_len, scalar, char_at, bits}
 use Rattle.text.specs.Space.{white_space, spaces}
-use Rattle.text.proofs.Chars.{IsChar, is-char, char-ascii}
-use Rattle.text.proofs.Rows.{seq-fits}
+use Rattle.text.proofs.Chars.{is-char, char-ascii}
 use Rattle.text.specs.declared.Char.{Char}
 use Rattle.lexer.specs.Scan.{byte}
 use Rattle.lexer.specs.Space.{blank}

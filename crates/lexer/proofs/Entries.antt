@@ -1,26 +1,24 @@
 -- From what the two rooms hold to the answer: the returns of the functions that list. Assumes nothing.
-use mathlib.Core.Path.{◌≡◌, refl, sym, ap, ◌∙◌, subst}
+use mathlib.Core.Path.{◌≡◌, refl, ap, ◌∙◌}
 use mathlib.Core.List.{List, [], ◌∷◌, ◌++◌}
-use Prim.Native.Nat.{ℕ, zero, suc, ◌+◌, ◌-◌, ◌*◌, ◌≤◌, ◌<◌}
+use Prim.Native.Nat.{ℕ, suc, ◌+◌, ◌-◌, ◌≤◌, ◌<◌}
 use native.Mathlib.Omega.{arith}
 use lib.ListN.{length, take, drop, length-append}
 use lib.Seq.{take_at}
 use borrow.Author.Tests.{lt-ltb, le-ltb}
-use Rattle.fields.specs.Number.{number, length-number}
 use Rattle.fields.specs.Field.{field, length-field}
 use Rattle.fields.specs.Room.{overlay, overlay-front, length-overlay}
 use Rattle.fields.specs.declared.Answer.{Answer}
-use Rattle.fields.specs.Outcome.{Outcome, listing, refusal, answer, content, Answers}
+use Rattle.fields.specs.Outcome.{listing, refusal}
 use Rattle.fields.specs.Promises.{refused, short, listed}
 use Rattle.text.specs.Valid.{valid_prefix}
-use Rattle.lexer.specs.Token.{Error, Tokens}
+use Rattle.lexer.specs.Token.{Error}
 use Rattle.lexer.specs.Read.{Read, read, deep}
-use Rattle.lexer.specs.Listing.{edition, tokens_bytes, errors_bytes, error_bytes}
+use Rattle.lexer.specs.Listing.{edition, errors_bytes, error_bytes}
 use Rattle.lexer.specs.Lex.{whole}
 use Rattle.lexer.specs.Lexing as lexing
-use Rattle.lexer.specs.Meets.{Put, Is}
-use Rattle.lexer.specs.Due.{deepness, tokens_due, errors_due, refused_as, Listed, Told}
-use Rattle.lexer.specs.declared.scan.State.{State}
+use Rattle.lexer.specs.Meets.{Put}
+use Rattle.lexer.specs.Due.{deepness, tokens_due, errors_due, refused_as, Told}
 use Rattle.lexer.proofs.Facts.Shape.{stands}
 use Rattle.lexer.proofs.Facts.Promises.{whole-onward}
 

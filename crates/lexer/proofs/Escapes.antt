@@ -1,17 +1,17 @@
 -- Escapes that nest nothing: the returns of `escape::unicode` and `escape::simple`. Assumes nothing.
 use mathlib.Core.Path.{◌≡◌, refl, sym, ap, ◌∙◌}
-use mathlib.Core.Bool.{Bool, true, false, cond}
-use mathlib.Core.List.{List, []}
-use Prim.Native.Nat.{ℕ, zero, suc, ◌+◌, ◌-◌, ◌*◌, ◌≤◌, ◌<◌, min}
+use mathlib.Core.Bool.{true, false}
+use mathlib.Core.List.{List}
+use Prim.Native.Nat.{ℕ, zero, suc, ◌+◌, ◌-◌, ◌≤◌, ◌<◌}
 use native.Mathlib.Omega.{arith}
 use lib.ListN.{length}
-use lib.Dec.{eqb, ltb}
-use borrow.Author.Tests.{lt-ltb, le-ltb, eq-eqb, ne_eqb}
+use lib.Dec.{ltb}
+use borrow.Author.Tests.{lt-ltb, le-ltb, ne_eqb}
 use Rattle.lexer.specs.Token.{Expect}
 use Rattle.lexer.specs.Scan.{byte, past}
 use Rattle.lexer.specs.Escape.{named, hex_digit, hexes, surrogate, unicode, simple}
 use Rattle.lexer.specs.Listing.{error_tag, opener}
-use Rattle.lexer.specs.Meets.{Byte, Coded, Is, Ready, Paid, Reads, Wrongs, Chars}
+use Rattle.lexer.specs.Meets.{Byte, Coded, Ready, Reads, Wrongs, Chars}
 use Rattle.lexer.specs.declared.scan.State.{State}
 use Rattle.lexer.specs.declared.escape.Code.{Code}
 use Rattle.lexer.proofs.Scans.{hit, miss}

@@ -1,8 +1,8 @@
 -- Four hex digits. Assumes nothing.
 use mathlib.Core.Path.{◌≡◌, refl, sym, ap, ◌∙◌}
-use mathlib.Core.Bool.{Bool, true, false, cond}
+use mathlib.Core.Bool.{true, false}
 use mathlib.Core.List.{List}
-use Prim.Native.Nat.{ℕ, zero, suc, ◌+◌, ◌-◌, ◌*◌, ◌^◌, ◌≤◌, ◌<◌, min}
+use Prim.Native.Nat.{ℕ, zero, suc, ◌+◌, ◌-◌, ◌*◌, ◌^◌, ◌≤◌, ◌<◌}
 use native.Mathlib.Numerals.{add-one}
 use native.Mathlib.Nat.{add-zero}
 use native.Mathlib.Omega.{arith}
@@ -11,7 +11,6 @@ use borrow.Author.Tests.{lt-ltb, le-ltb}
 use Rattle.lexer.specs.Scan.{byte, past}
 use Rattle.lexer.specs.Escape.{hex_digit, hex, hexes}
 use Rattle.lexer.specs.Meets.{Byte, Hexed, Coded}
-use Rattle.lexer.specs.declared.escape.Code.{Code}
 use Rattle.lexer.proofs.Past.{past_more, past-here, past-low}
 use Rattle.lexer.proofs.Scans.{some}
 

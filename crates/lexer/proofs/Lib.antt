@@ -21,4 +21,3 @@ pub mod Wholes
 pub mod Pieces
 pub mod Members
 pub mod Parts
-pub mod Holding

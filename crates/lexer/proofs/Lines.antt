@@ -1,17 +1,17 @@
 -- The lines of a comment. Assumes nothing.
-use mathlib.Core.Path.{◌≡◌, refl, sym, ap, ◌∙◌}
+use mathlib.Core.Path.{◌≡◌, refl, sym, ap}
 use mathlib.Core.Bool.{Bool, true, false, cond, not}
 use mathlib.Core.List.{List}
-use Prim.Native.Nat.{ℕ, zero, suc, ◌+◌, ◌-◌, ◌%◌, ◌≤◌, ◌<◌, min}
+use Prim.Native.Nat.{ℕ, zero, suc, ◌+◌, ◌-◌, ◌%◌, ◌≤◌, ◌<◌}
 use native.Mathlib.Nat.{add-zero, add-suc}
 use native.Mathlib.Numerals.{add-one}
 use native.Mathlib.Omega.{arith}
 use lib.ListN.{length, get_or}
 use lib.Dec.{eqb}
 use borrow.Author.Tests.{eq-eqb, ne_eqb}
-use Rattle.lexer.specs.Scan.{byte, past}
-use Rattle.lexer.specs.Space.{in_line, less_cr, slashes, goes_on, next_line}
-use Rattle.lexer.specs.Meets.{Reaches, counts, Going}
+use Rattle.lexer.specs.Scan.{byte}
+use Rattle.lexer.specs.Space.{in_line, less_cr, slashes, goes_on}
+use Rattle.lexer.specs.Meets.{counts, Going}
 use Rattle.lexer.proofs.Past.{more}
 
 pub in-line : (b : ℕ) → (b ≡ 0x0A → ⊥) → in_line b ≡ true

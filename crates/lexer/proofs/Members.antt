@@ -1,22 +1,22 @@
 -- The returns and turns of the cycle: each says what one step of the definition says, whatever number bounds it. Assumes nothing.
 use mathlib.Core.Path.{◌≡◌, refl, sym, ap, ◌∙◌}
-use mathlib.Core.Bool.{Bool, true, false, cond}
+use mathlib.Core.Bool.{cond}
 use mathlib.Core.List.{List, []}
 use Prim.Native.Nat.{ℕ, zero, suc, ◌+◌, ◌-◌, ◌*◌, ◌≤◌, ◌<◌}
 use native.Mathlib.Omega.{arith}
 use lib.ListN.{length}
 use lib.Dec.{eqb}
 use borrow.Author.Tests.{eq-eqb, ne_eqb}
-use Rattle.lexer.specs.Scan.{byte, past}
+use Rattle.lexer.specs.Scan.{byte}
 use Rattle.lexer.specs.Space.{space}
 use Rattle.lexer.specs.Word.{letter, digit}
 use Rattle.lexer.specs.Sym.{operator}
 use Rattle.lexer.specs.Kind.{kind}
 use Rattle.lexer.specs.Escape.{simple}
-use Rattle.lexer.specs.Read.{Read, deep, nothing, and_then, enclose}
-use Rattle.lexer.specs.Lex.{leaf_at, close, text_byte, text, quote, tokens, token, block, str, parts, escape}
+use Rattle.lexer.specs.Read.{Read, and_then}
+use Rattle.lexer.specs.Lex.{leaf_at, close, text, quote, tokens, token, block, str, parts, escape}
 use Rattle.lexer.specs.Listing.{errors_bytes}
-use Rattle.lexer.specs.Meets.{Byte, Reaches, Put, Is, Ready, Paid, Reads, Lexes, Texts, Quotes, Encloses}
+use Rattle.lexer.specs.Meets.{Byte, Reaches, Is, Ready, Paid, Reads, Lexes, Texts, Quotes, Encloses}
 use Rattle.lexer.specs.declared.scan.State.{State}
 use Rattle.lexer.proofs.Puts.{put-none}
 use Rattle.lexer.proofs.Scans.{hit, miss}

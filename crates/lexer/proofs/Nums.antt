@@ -1,16 +1,16 @@
 -- Numbers: the returns of `num`. Assumes nothing.
 use mathlib.Core.Path.{◌≡◌, refl, sym, ap, ◌∙◌}
-use mathlib.Core.Bool.{Bool, true, false, cond}
+use mathlib.Core.Bool.{true}
 use mathlib.Core.List.{List, [], ◌∷◌}
-use Prim.Native.Nat.{ℕ, ◌+◌, ◌≤◌, ◌<◌}
+use Prim.Native.Nat.{ℕ, ◌+◌, ◌≤◌}
 use native.Mathlib.Omega.{arith}
 use lib.ListN.{length}
 use Rattle.lexer.specs.Token.{Expect}
-use Rattle.lexer.specs.Scan.{byte, past, one_of, optional, Scan, scan}
+use Rattle.lexer.specs.Scan.{byte, past, one_of, optional, scan}
 use Rattle.lexer.specs.Word.{digit}
 use Rattle.lexer.specs.Num.{digits1, fraction, exponent, num}
-use Rattle.lexer.specs.Listing.{error_tag, opener, errors_bytes}
-use Rattle.lexer.specs.Meets.{Byte, Reaches, Put, Erred, Scans}
+use Rattle.lexer.specs.Listing.{error_tag, opener}
+use Rattle.lexer.specs.Meets.{Byte, Reaches, Erred, Scans}
 use Rattle.lexer.specs.declared.scan.Scanned.{Scanned}
 use Rattle.lexer.proofs.Puts.{put_then}
 use Rattle.lexer.proofs.Appends.{errors-append}

@@ -1,24 +1,22 @@
 -- What the cycle is made of: tokens that nest nothing, closers, text parts, quotes. Assumes nothing.
 use mathlib.Core.Path.{◌≡◌, refl, sym, ap, ◌∙◌}
-use mathlib.Core.Bool.{Bool, true, false, cond, not}
+use mathlib.Core.Bool.{true, false}
 use mathlib.Core.List.{List, [], ◌∷◌, ◌++◌}
-use Prim.Native.Nat.{ℕ, suc, ◌+◌, ◌-◌, ◌*◌, ◌≤◌, ◌<◌}
+use Prim.Native.Nat.{ℕ, ◌+◌, ◌-◌, ◌*◌, ◌≤◌, ◌<◌}
 use native.Mathlib.Omega.{arith}
-use lib.ListN.{length}
-use lib.Dec.{eqb}
-use borrow.Author.Tests.{eq-eqb, ne_eqb}
+use borrow.Author.Tests.{ne_eqb}
 use Rattle.fields.specs.Number.{number}
 use Rattle.fields.specs.Field.{field}
 use Rattle.fields.specs.Room.{overlay}
 use Rattle.lexer.specs.Token.{one, leaf, closer, missing}
-use Rattle.lexer.specs.Scan.{byte, past, scan}
+use Rattle.lexer.specs.Scan.{past}
 use Rattle.lexer.specs.Word.{ident1, mod_then_ident}
 use Rattle.lexer.specs.Num.{num}
 use Rattle.lexer.specs.Sym.{sym as symbol}
 use Rattle.lexer.specs.Kind.{plain}
 use Rattle.lexer.specs.Lex.{leaf_at, closing, close, text_byte, text, quote}
 use Rattle.lexer.specs.Listing.{pair, tokens_bytes, errors_bytes}
-use Rattle.lexer.specs.Meets.{Byte, Reaches, Put, Puts, Scans, Found, Is, Ready, Paid, Reads, Texts, Quotes, Encloses}
+use Rattle.lexer.specs.Meets.{Byte, Reaches, Put, Puts, Scans, Ready, Reads, Texts, Quotes, Encloses}
 use Rattle.lexer.specs.declared.scan.Scanned.{Scanned}
 use Rattle.lexer.specs.declared.scan.State.{State}
 use Rattle.lexer.proofs.Scans.{hit, miss, clean, from}

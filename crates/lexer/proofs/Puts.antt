@@ -1,15 +1,15 @@
 -- Fields, written out as the bytes that the code puts. Assumes nothing.
-use mathlib.Core.Path.{◌≡◌, refl, sym, ap, ◌∙◌}
+use mathlib.Core.Path.{◌≡◌, sym, ◌∙◌}
 use mathlib.Core.List.{List, [], ◌∷◌, ◌++◌}
-use Prim.Native.Nat.{ℕ, zero, suc, ◌+◌, ◌-◌, ◌*◌, ◌/◌, ◌%◌, ◌≤◌, ◌<◌}
+use Prim.Native.Nat.{ℕ, ◌+◌, ◌-◌, ◌/◌, ◌%◌, ◌<◌}
 use native.Mathlib.Nat.{add-zero}
 use native.Mathlib.Omega.{arith}
-use lib.ListN.{length, length-append}
+use lib.ListN.{length-append}
 use borrow.Author.Tests.{eq-eqb, ne_eqb}
 use Rattle.fields.specs.Number.{number}
 use Rattle.fields.specs.Field.{field}
 use Rattle.fields.specs.Room.{overlay, overlay-none, overlay-append}
-use Rattle.lexer.specs.Token.{Tokens, none, one, more, leaf, char, Expect, closer, missing}
+use Rattle.lexer.specs.Token.{one, leaf, char, closer, missing}
 use Rattle.lexer.specs.Lex.{text}
 use Rattle.lexer.specs.Listing.{pair, tokens_bytes, error_tag, opener, error_bytes, errors_bytes}
 use Rattle.lexer.specs.Meets.{Put, Puts, Erred}

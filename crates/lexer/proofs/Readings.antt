@@ -1,16 +1,16 @@
 -- What is read, put together: the laws that the returns of the reading functions cite. Assumes nothing.
 use mathlib.Core.Path.{◌≡◌, refl, sym, ap, ◌∙◌}
 use mathlib.Core.List.{List, [], ◌∷◌, ◌++◌, append-nil}
-use Prim.Native.Nat.{ℕ, zero, suc, ◌+◌, ◌-◌, ◌*◌, ◌≤◌, ◌<◌}
+use Prim.Native.Nat.{ℕ, ◌+◌, ◌-◌}
 use native.Mathlib.Omega.{arith}
 use lib.ListN.{length, length-append}
 use Rattle.fields.specs.Number.{number}
 use Rattle.fields.specs.Field.{field}
 use Rattle.fields.specs.Room.{overlay, overlay-append, overlay-before}
-use Rattle.lexer.specs.Token.{Token, Tokens, none, one, join, Expect, closer, Error, missing}
+use Rattle.lexer.specs.Token.{Token, Tokens, one, Expect, Error, missing}
 use Rattle.lexer.specs.Read.{Read, read, deep, nothing, found, wrong, after, and_then, enclose}
 use Rattle.lexer.specs.Listing.{pair, tokens_bytes, errors_bytes}
-use Rattle.lexer.specs.Meets.{Put, Found, Says, Is, Encloses}
+use Rattle.lexer.specs.Meets.{Put, Is, Encloses}
 use Rattle.lexer.specs.declared.scan.State.{State}
 use Rattle.lexer.proofs.Puts.{put-none, put_then}
 use Rattle.lexer.proofs.Appends.{errors-append, tokens_append}

@@ -1,16 +1,16 @@
 -- Scans and their errors: what each return of the scanning functions shows. Assumes nothing.
-use mathlib.Core.Path.{◌≡◌, refl, sym, ap, ◌∙◌}
-use mathlib.Core.Bool.{Bool, true, false, cond, ◌&&◌}
-use mathlib.Core.List.{List, [], ◌∷◌, ◌++◌}
-use Prim.Native.Nat.{ℕ, zero, suc, ◌+◌, ◌-◌, ◌*◌, ◌≤◌, ◌<◌}
+use mathlib.Core.Path.{◌≡◌, refl, sym, ◌∙◌}
+use mathlib.Core.Bool.{Bool, true, false}
+use mathlib.Core.List.{List, [], ◌∷◌}
+use Prim.Native.Nat.{ℕ, zero, suc, ◌+◌, ◌*◌, ◌≤◌, ◌<◌}
 use native.Mathlib.Omega.{arith}
 use lib.ListN.{length}
 use lib.Dec.{eqb}
 use borrow.Author.Tests.{eq-eqb, ne_eqb}
-use Rattle.lexer.specs.Token.{Expect, Error}
-use Rattle.lexer.specs.Scan.{byte, past, one_of, optional, Scan, scan, expected}
+use Rattle.lexer.specs.Token.{Expect}
+use Rattle.lexer.specs.Scan.{byte, optional, Scan, scan, expected}
 use Rattle.lexer.specs.Listing.{error_tag, opener, errors_bytes}
-use Rattle.lexer.specs.Meets.{Byte, Reaches, Put, Erred, Scans}
+use Rattle.lexer.specs.Meets.{Byte, Reaches, Erred, Scans}
 use Rattle.lexer.specs.declared.scan.Scanned.{Scanned}
 use Rattle.lexer.proofs.Puts.{put-none}
 

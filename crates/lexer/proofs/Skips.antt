@@ -1,18 +1,17 @@
 -- Space step by step: what it does at a blank, at a comment and elsewhere, whatever the number that bounds it. Assumes nothing.
-use mathlib.Core.Path.{◌≡◌, refl, sym, ap, ◌∙◌}
+use mathlib.Core.Path.{◌≡◌, refl}
 use mathlib.Core.Bool.{Bool, true, false, cond}
 use mathlib.Core.List.{List}
-use Prim.Native.Nat.{ℕ, zero, suc, ◌+◌, ◌-◌, ◌%◌, ◌≤◌, ◌<◌, min}
+use Prim.Native.Nat.{ℕ, zero, suc, ◌+◌, ◌-◌, ◌≤◌, ◌<◌}
 use native.Mathlib.Omega.{arith}
-use lib.ListN.{length, drop, get_or, get_or-eq_default}
+use lib.ListN.{length, drop, get_or-eq_default}
 use lib.Dec.{eqb, ltb}
-use borrow.Author.Tests.{lt-ltb, le-ltb, eq-eqb, ne_eqb, ltb-true, ltb-false, eqb-true}
+use borrow.Author.Tests.{lt-ltb, ne_eqb, ltb-true, ltb-false, eqb-true}
 use Rattle.text.specs.Utf8.{seq_len, scalar}
 use Rattle.text.specs.Space.{white_space}
 use Rattle.text.proofs.Rows.{seq-fits}
 use Rattle.lexer.specs.Scan.{byte, past}
 use Rattle.lexer.specs.Space.{blank, in_line, less_cr, slashes, goes_on, next_line, comment, skip, space}
-use Rattle.lexer.specs.Meets.{Reaches}
 use Rattle.lexer.proofs.Past.{past-low, past-high}
 
 branch : (b : Bool) (f g h : ℕ) → (b ≡ true → f ≡ g) → cond b f h ≡ cond b g h

@@ -1,7 +1,7 @@
 -- The whole source: editions, top tokens, and what follows them. Assumes nothing.
-use mathlib.Core.Path.{◌≡◌, refl, sym, ap, ◌∙◌, subst}
-use mathlib.Core.List.{List, [], ◌∷◌, ◌++◌}
-use Prim.Native.Nat.{ℕ, zero, suc, ◌+◌, ◌-◌, ◌*◌, ◌≤◌, ◌<◌}
+use mathlib.Core.Path.{◌≡◌, refl, subst}
+use mathlib.Core.List.{List, [], ◌∷◌}
+use Prim.Native.Nat.{ℕ, suc, ◌+◌, ◌-◌, ◌*◌, ◌≤◌, ◌<◌}
 use native.Mathlib.Omega.{arith}
 use lib.ListN.{length}
 use borrow.Author.Tests.{lt-ltb, le-ltb}
@@ -9,12 +9,12 @@ use Rattle.fields.specs.Number.{number}
 use Rattle.fields.specs.Field.{field}
 use Rattle.fields.specs.Room.{overlay}
 use Rattle.lexer.specs.Token.{Expect}
-use Rattle.lexer.specs.Read.{Read, read, deep, nothing, wrong, and_then}
-use Rattle.lexer.specs.Listing.{edition, tokens_bytes, errors_bytes, error_tag, opener}
+use Rattle.lexer.specs.Read.{Read, read, deep}
+use Rattle.lexer.specs.Listing.{edition, error_tag, opener}
 use Rattle.lexer.specs.Space.{space}
 use Rattle.lexer.specs.Lex.{tokens, rest, whole}
-use Rattle.lexer.specs.Meets.{Put, Erred, Is, Ready, Lexes, Reaches}
-use Rattle.lexer.specs.Due.{deepness, tokens_due, errors_due, Begun, Rests, Listed}
+use Rattle.lexer.specs.Meets.{Put, Erred, Is, Lexes}
+use Rattle.lexer.specs.Due.{deepness, Begun, Rests, Listed}
 use Rattle.lexer.specs.declared.scan.State.{State}
 use Rattle.lexer.proofs.Facts.Blanks.{space-again}
 use Rattle.lexer.proofs.Puts.{put_then}

@@ -1,13 +1,13 @@
 -- Identifiers: the returns of `word`. Assumes nothing.
-use mathlib.Core.Path.{◌≡◌, refl, sym, ap, ◌∙◌}
-use mathlib.Core.Bool.{Bool, true, false, cond, ◌&&◌}
+use mathlib.Core.Path.{◌≡◌, refl}
+use mathlib.Core.Bool.{true, false}
 use mathlib.Core.List.{List, [], ◌∷◌}
-use Prim.Native.Nat.{ℕ, zero, suc, ◌+◌, ◌≤◌, ◌<◌}
+use Prim.Native.Nat.{ℕ, ◌+◌, ◌≤◌, ◌<◌}
 use native.Mathlib.Omega.{arith}
 use lib.ListN.{length}
 use Rattle.lexer.specs.Token.{ident}
-use Rattle.lexer.specs.Scan.{byte, past, Scan, scan, expected, optional}
-use Rattle.lexer.specs.Word.{letter, ident0, ident_end, ident1, mod_then_ident, word_byte}
+use Rattle.lexer.specs.Scan.{byte, scan, optional}
+use Rattle.lexer.specs.Word.{letter, ident0, ident_end, ident1, mod_then_ident}
 use Rattle.lexer.specs.Listing.{error_tag, opener}
 use Rattle.lexer.specs.Meets.{Byte, Reaches, Erred, Scans}
 use Rattle.lexer.specs.declared.scan.Scanned.{Scanned}

@@ -5,8 +5,8 @@ use Rattle.fields.specs.Outcome.{Outcome, Answers}
 use Rattle.lexer.specs.Read.{Read, read, deep}
 use Rattle.lexer.specs.Listing.{edition, tokens_bytes, errors_bytes}
 use Rattle.lexer.specs.Space.{space}
-use Rattle.lexer.specs.Lex.{rest, whole}
-use Rattle.lexer.specs.Lexing.{listed, lexing}
+use Rattle.lexer.specs.Lex.{rest}
+use Rattle.lexer.specs.Lexing.{lexing}
 use Rattle.lexer.specs.Meets.{Put, Is, Reaches}
 use Rattle.lexer.specs.declared.scan.State.{State}
 

@@ -1,16 +1,14 @@
 -- Document 01's bench cases of the lexer, computed from the definitions.
-use Rattle.std.specs.Prelude.{◌≡◌, refl, List, [], ◌∷◌, ◌++◌, map, ℕ}
-use Rattle.std.proofs.lemmas.List.Edits.{sets}
-use Rattle.text.specs.Ranges.{Range}
+use Rattle.std.specs.Prelude.{◌≡◌, refl, List, [], ◌∷◌, map, ℕ}
 use Rattle.text.specs.Utf8.{seq_len, scalar, table, bits}
 use Rattle.text.specs.Space.{white_space, spaces}
 use Rattle.text.specs.Valid.{valid_prefix, passing}
 use Rattle.fields.specs.Number.{number}
 use Rattle.fields.specs.Field.{field}
-use Rattle.fields.specs.Outcome.{Outcome, listing, refusal}
-use Rattle.lexer.specs.Token.{Tokens, none, more, leaf, group, one, join, Expect, Error, missing, closer, any}
+use Rattle.fields.specs.Outcome.{listing}
+use Rattle.lexer.specs.Token.{Tokens, none, join, Expect, Error, missing, closer, any}
 use Rattle.lexer.specs.Scan.{run, past, optional, expected}
-use Rattle.lexer.specs.Space.{blank, in_line, less_cr, slashes, goes_on, next_line, comment, skip, space}
+use Rattle.lexer.specs.Space.{blank, skip, space}
 use Rattle.lexer.specs.Word.{letter, digit, word_byte, ident_end, ident1, mod_then_ident}
 use Rattle.lexer.specs.Num.{digits1, fraction, exponent, num}
 use Rattle.lexer.specs.Sym.{operator, follows, dot, sym}
@@ -18,7 +16,7 @@ use Rattle.lexer.specs.Kind.{kind, plain}
 use Rattle.lexer.specs.Escape.{named, hex_digit, hex, hexes, surrogate, unicode, simple}
 use Rattle.lexer.specs.Read.{Read, read, deep, after, and_then, enclose}
 use Rattle.lexer.specs.Lex.{leaf_at, closing, close, text_byte, text, quote, tokens, rest, whole}
-use Rattle.lexer.specs.Listing.{pair, tokens_bytes, error_tag, opener, error_bytes, errors_bytes, edition}
+use Rattle.lexer.specs.Listing.{pair, tokens_bytes, edition}
 use Rattle.lexer.specs.Lexing.{listed, lexing}
 
 -- what is listed of a source: "0: listing of tokens; 1: listing of errors, nothing else"

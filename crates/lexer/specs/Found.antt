@@ -3,7 +3,6 @@
 use Rattle.std.specs.Prelude.{ℕ, List, length, take, drop}
 use Rattle.lexer.specs.declared.token.Token.{Token}
 use Rattle.lexer.specs.declared.token.Found.{Found}
-use Rattle.lexer.specs.declared.token.Found.TheVariants as Found
 
 -- "the token's own text"
 abbrev pub as_str : Token → List ℕ → List ℕ

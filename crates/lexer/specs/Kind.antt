@@ -1,5 +1,5 @@
 -- Which token a byte starts, and the tokens that need no nesting.
-use Rattle.std.specs.Prelude.{ℕ, ◌+◌, ◌-◌, Bool, true, cond, ◌||◌, List, [], ◌∷◌, eqb}
+use Rattle.std.specs.Prelude.{ℕ, ◌+◌, cond, ◌||◌, List, [], ◌∷◌, eqb}
 use Rattle.lexer.specs.Scan.{one_of, Scan, scan}
 use Rattle.lexer.specs.Word.{letter, digit, ident1, mod_then_ident}
 use Rattle.lexer.specs.Num.{num}

@@ -2,7 +2,7 @@
 -- three more, are enough, and what is found does not depend on it. The number before the place is how many blocks and strings may still be opened.
 use Rattle.std.specs.Prelude.{ℕ, zero, suc, ◌+◌, ◌-◌, ◌*◌, Bool, cond, not, List, [], ◌∷◌, length, eqb, ltb}
 use Rattle.lexer.specs.Token.{Tokens, none, one, leaf, Expect, closer}
-use Rattle.lexer.specs.Scan.{byte, past, one_of, Scan}
+use Rattle.lexer.specs.Scan.{byte, past, one_of}
 use Rattle.lexer.specs.Space.{space}
 use Rattle.lexer.specs.Kind.{kind, plain}
 use Rattle.lexer.specs.Escape.{simple}

@@ -4,7 +4,7 @@ ghost use Rattle.lexer.specs.Word.{letter, digit, word_byte};
 ghost use Rattle.lexer.specs.Sym.{operator, follows};
 ghost use Rattle.lexer.specs.Kind.{kind};
 
-// [a-z_a-Z_]
+// [a-zA-Z_]
 pub fn letter(b: u8) -> bool
     ensures { result ≡ letter b }
 {
@@ -30,7 +30,7 @@ pub fn digit(b: u8) -> bool
     b <= b'9'
 }
 
-// [a-z_a-Z0-9_]
+// [a-zA-Z0-9_]
 pub fn word_byte(b: u8) -> bool
     ensures { result ≡ word_byte b }
 {

@@ -32,7 +32,7 @@ fn hex(b: u8) -> usize
 }
 
 // Hex digits that were read, four at the most: the place behind them, and their number.
-#[derive(Drop)]
+#[derive(Clone, Copy)]
 pub struct Code {
     pub at: usize,
     pub code: usize,

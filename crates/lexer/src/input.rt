@@ -1,6 +1,5 @@
 // A lexer's state. "The remaining input `i` is always a suffix of the source": each step's contract says how many bytes it
-// drops from the front of `i`. A struct that holds a slice costs a proof by hand for each function over it, so these are
-// few and thin: they take the lexer apart, and leave the work to functions on the slice.
+// drops from the front of `i`. These are few and thin: they take the lexer apart, and leave the work to functions on the slice.
 ghost use Rattle.std.specs.Prelude.{◌≡◌, take};
 ghost use Rattle.lexer.specs.Due.{Lexed};
 ghost use Rattle.lexer.specs.Input.{behind, taking, spacing};
@@ -8,7 +7,7 @@ ghost use Rattle.lexer.specs.Input.{behind, taking, spacing};
 use crate::{part, space};
 use fields::Answer;
 
-#[derive(Drop)]
+#[derive(Clone, Copy)]
 pub struct Lexer<'a> {
     pub i: &'a [u8],
 }

@@ -4,14 +4,14 @@ ghost use Rattle.lexer.specs.Scan.{optional};
 ghost use Rattle.lexer.specs.Meets.{Byte, Reaches};
 
 // The end of a scan that finds no tokens: its place, and the next offset in the room of errors.
-#[derive(Drop)]
+#[derive(Clone, Copy)]
 pub struct Scanned {
     pub at: usize,
     pub errors: usize,
 }
 
 // Reading: the place, the next offset in the room of tokens and in that of errors. Where an opener nests too deep, deep is one more than its place; else 0.
-#[derive(Drop)]
+#[derive(Clone, Copy)]
 pub struct State {
     pub at: usize,
     pub tokens: usize,

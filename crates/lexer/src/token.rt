@@ -6,14 +6,14 @@ ghost use Rattle.lexer.specs.Found.{as_str, opt_as_str};
 use crate::part;
 
 // Where a token starts in its text, and how many bytes it has.
-#[derive(Drop)]
+#[derive(Clone, Copy)]
 pub struct Token {
     pub start: usize,
     pub len: usize,
 }
 
 // The token that was found where one was looked for, if any.
-#[derive(Drop)]
+#[derive(Clone, Copy)]
 pub enum Found {
     Token(Token),
     Nothing,

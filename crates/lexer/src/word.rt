@@ -7,7 +7,7 @@ use crate::class::{letter, word_byte};
 use crate::put::put_error;
 use crate::scan::{Scanned, byte_at, optional};
 
-// [a-z_a-Z0-9_]*
+// [a-zA-Z0-9_]*
 pub fn ident0(s: &[u8], at: usize) -> usize
     requires { at ≤ length s.now }
     ensures { Reaches (ident0 s.now at) s.now at result }
@@ -22,7 +22,7 @@ pub fn ident0(s: &[u8], at: usize) -> usize
     i
 }
 
-// [a-z_a-Z_][a-z_a-Z0-9_]*
+// [a-zA-Z_][a-zA-Z0-9_]*
 pub fn ident1(s: &[u8], at: usize, err: &mut [u8], e: usize) -> Scanned
     requires { Within s.now at e }
     ensures { Scans (ident1 s.now at) s.now at e 10 err.old err.new result }

@@ -11,7 +11,7 @@ use Rattle.lexer.specs.Scan.{byte, past}
 use Rattle.lexer.specs.Space.{space}
 use Rattle.lexer.specs.Kind.{kind}
 use Rattle.lexer.specs.Read.{Read, after, and_then, enclose}
-use Rattle.lexer.specs.Lex.{close, text_byte, text, quote, tokens, token, block, str, parts, escape}
+use Rattle.lexer.specs.Lex.{close, text_byte, text, tokens, token, block, str, parts, escape}
 use Rattle.lexer.proofs.Facts.Cases.{alike}
 use Rattle.lexer.proofs.Facts.Onward.{Onward, byte-is, past-on, space-on}
 use Rattle.lexer.proofs.Facts.Sound.{Sound, reads, stops, kind-in, token-sound, escape-sound}

@@ -31,7 +31,7 @@ one-of P (x ∷ xs) b a e = go (eqb b x) refl e (one-of P xs b a.1)
 -- ---- which token a byte starts
 
 module _ (b : ℕ) where
-  -- "Word: `[a-z_a-Z_]..`"
+  -- "Word: `[a-zA-Z_]..`"
   pub word-kind : letter b ≡ true → kind b ≡ 0x01
   unfolding kind
   word-kind e = rw e

@@ -291,7 +291,7 @@ module _ (s : List ℕ) (n at : ℕ) where
   pub tokens-closer : at ≤ length s → one_of (0x29 ∷ 0x5D ∷ 0x7D ∷ []) (byte s (space s at)) ≡ true → tokens_at s n at ≡ nothing (space s at)
   tokens-closer h e = free.tokens_none s n at h (kinds.closer-kind (byte s (space s at)) e)
 
-  -- "Word: `[a-z_a-Z_][a-z_a-Z0-9_]*` .."
+  -- "Word: `[a-zA-Z_][a-zA-Z0-9_]*` .."
   pub token-word : letter (byte s at) ≡ true → token_at s n at ≡ leaf_at 0x01 s at
   token-word e = free.token-plain s n at 0x01 (omega arith) (omega arith) (kinds.word-kind (byte s at) e)
 

@@ -6,6 +6,7 @@ use borrow.Author.Tests.{ne_eqb}
 use mathlib.Core.Path.{◌≡◌, refl}
 use mathlib.Core.Bool.{Bool, true, false, cond, not, ◌&&◌}
 use Rattle.lexer.specs.Sym.{operator, follows}
+use native.Mathlib.Omega.{arith}
 use Rattle.lexer.proofs.class.follows.Goals as goal
 
 dash : (x : Bool) → false ≡ cond x true false && not x
@@ -50,4 +51,4 @@ returns-in-37 c = simp c.in-37.is
 
 pub returns-in_default : goal.returns-in_default
 unfolding operator follows
-returns-in_default c = let r = c.in_default.in_default-own.rest in simp (ne_eqb _ _ r.0.0.0.0.0.0.0.0.1, ne_eqb _ _ r.0.0.0.0.0.0.0.1, ne_eqb _ _ r.0.0.0.0.0.0.1, ne_eqb _ _ r.0.0.0.0.0.1, ne_eqb _ _ r.0.0.0.0.1, ne_eqb _ _ r.0.0.0.1, ne_eqb _ _ r.0.0.1, ne_eqb _ _ r.0.1, ne_eqb _ _ r.1) (dash (eqb c.args.b 45))
+returns-in_default c = simp (ne_eqb c.args.b 124 (λ e. omega arith), ne_eqb c.args.b 61 (λ e. omega arith), ne_eqb c.args.b 47 (λ e. omega arith), ne_eqb c.args.b 43 (λ e. omega arith), ne_eqb c.args.b 42 (λ e. omega arith), ne_eqb c.args.b 60 (λ e. omega arith), ne_eqb c.args.b 62 (λ e. omega arith), ne_eqb c.args.b 33 (λ e. omega arith), ne_eqb c.args.b 37 (λ e. omega arith)) (dash (eqb c.args.b 45))

@@ -4,6 +4,7 @@ use borrow.Author.Tests.{ne_eqb}
 use Rattle.lexer.specs.Word.{letter, digit}
 use Rattle.lexer.specs.Sym.{operator}
 use Rattle.lexer.specs.Kind.{kind}
+use native.Mathlib.Omega.{arith}
 use Rattle.lexer.proofs.class.kind.Goals as goal
 
 pub returns-then-letter : goal.returns-then-letter
@@ -100,4 +101,4 @@ returns-in-37 c = simp c.in-37.is
 
 pub returns-in_default : goal.returns-in_default
 unfolding kind operator
-returns-in_default c = let r = c.in_default.in_default-own.rest in simp (sym c.letter.ensures ∙ c.if-letter.false, sym c.digit.ensures ∙ c.if-digit.false, ne_eqb _ _ r.0.0.0.0.0.0.0.0.0.0.0.0.0.0.0.0.0.0.0.0.1, ne_eqb _ _ r.0.0.0.0.0.0.0.0.0.0.0.0.0.0.0.0.0.0.0.1, ne_eqb _ _ r.0.0.0.0.0.0.0.0.0.0.0.0.0.0.0.0.0.0.1, ne_eqb _ _ r.0.0.0.0.0.0.0.0.0.0.0.0.0.0.0.0.0.1, ne_eqb _ _ r.0.0.0.0.0.0.0.0.0.0.0.0.0.0.0.0.1, ne_eqb _ _ r.0.0.0.0.0.0.0.0.0.0.0.0.0.0.0.1, ne_eqb _ _ r.0.0.0.0.0.0.0.0.0.0.0.0.0.0.1, ne_eqb _ _ r.0.0.0.0.0.0.0.0.0.0.0.0.0.1, ne_eqb _ _ r.0.0.0.0.0.0.0.0.0.0.0.0.1, ne_eqb _ _ r.0.0.0.0.0.0.0.0.0.0.0.1, ne_eqb _ _ r.0.0.0.0.0.0.0.0.0.0.1, ne_eqb _ _ r.0.0.0.0.0.0.0.0.0.1, ne_eqb _ _ r.0.0.0.0.0.0.0.0.1, ne_eqb _ _ r.0.0.0.0.0.0.0.1, ne_eqb _ _ r.0.0.0.0.0.0.1, ne_eqb _ _ r.0.0.0.0.0.1, ne_eqb _ _ r.0.0.0.0.1, ne_eqb _ _ r.0.0.0.1, ne_eqb _ _ r.0.0.1, ne_eqb _ _ r.0.1, ne_eqb _ _ r.1)
+returns-in_default c = simp (sym c.letter.ensures ∙ c.if-letter.false, sym c.digit.ensures ∙ c.if-digit.false, ne_eqb c.args.b 46 (λ e. omega arith), ne_eqb c.args.b 40 (λ e. omega arith), ne_eqb c.args.b 34 (λ e. omega arith), ne_eqb c.args.b 36 (λ e. omega arith), ne_eqb c.args.b 44 (λ e. omega arith), ne_eqb c.args.b 58 (λ e. omega arith), ne_eqb c.args.b 91 (λ e. omega arith), ne_eqb c.args.b 123 (λ e. omega arith), ne_eqb c.args.b 59 (λ e. omega arith), ne_eqb c.args.b 63 (λ e. omega arith), ne_eqb c.args.b 64 (λ e. omega arith), ne_eqb c.args.b 124 (λ e. omega arith), ne_eqb c.args.b 61 (λ e. omega arith), ne_eqb c.args.b 43 (λ e. omega arith), ne_eqb c.args.b 45 (λ e. omega arith), ne_eqb c.args.b 42 (λ e. omega arith), ne_eqb c.args.b 47 (λ e. omega arith), ne_eqb c.args.b 60 (λ e. omega arith), ne_eqb c.args.b 62 (λ e. omega arith), ne_eqb c.args.b 33 (λ e. omega arith), ne_eqb c.args.b 37 (λ e. omega arith))

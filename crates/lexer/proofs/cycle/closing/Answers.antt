@@ -2,6 +2,7 @@
 use borrow.Author.Tests.{ne_eqb}
 use Rattle.lexer.specs.Lex.{closing}
 use borrow.Author.Rules.{rules}
+use native.Mathlib.Omega.{arith}
 use Rattle.lexer.proofs.cycle.closing.Goals as goal
 
 pub returns-in-40 : goal.returns-in-40
@@ -14,4 +15,4 @@ returns-in-91 c = (simp c.in-91.is, search rules)
 
 pub returns-in_default : goal.returns-in_default
 unfolding closing
-returns-in_default c = let r = c.in_default.in_default-own.rest in (simp (ne_eqb _ _ r.0.1, ne_eqb _ _ r.1), search rules)
+returns-in_default c = (simp (ne_eqb c.args.b 40 (λ e. omega arith), ne_eqb c.args.b 91 (λ e. omega arith)), search rules)

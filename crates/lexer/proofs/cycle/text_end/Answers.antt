@@ -1,6 +1,5 @@
 -- `cycle::text_end` meets its contract. Assumes nothing.
 use mathlib.Core.Path.{refl}
-use Prim.Native.Nat.{◌-◌}
 use Rattle.lexer.specs.Lex.{text_byte}
 use Rattle.lexer.proofs.Pieces.{text-byte, no_text}
 use Rattle.lexer.proofs.Past.{start, more, stop, all}

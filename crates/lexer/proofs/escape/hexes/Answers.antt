@@ -1,5 +1,4 @@
 -- `escape::hexes` meets its contract: digits are read one by one. Assumes nothing.
-use Prim.Native.Nat.{◌-◌}
 use Rattle.lexer.proofs.Hexes.{digits-start, digits-small, digit-more, digit-stop, digits-all}
 use native.Mathlib.Omega.{arith}
 use borrow.Author.Rules.{rules}

@@ -2,6 +2,7 @@
 use borrow.Author.Tests.{ne_eqb}
 use Rattle.lexer.specs.Escape.{named}
 use borrow.Author.Rules.{rules}
+use native.Mathlib.Omega.{arith}
 use Rattle.lexer.proofs.escape.named.Goals as goal
 
 pub returns-in-110 : goal.returns-in-110
@@ -38,4 +39,4 @@ returns-in-102 c = (simp c.in-102.is, search rules)
 
 pub returns-in_default : goal.returns-in_default
 unfolding named
-returns-in_default c = let r = c.in_default.in_default-own.rest in (simp (ne_eqb _ _ r.0.0.0.0.0.0.0.1, ne_eqb _ _ r.0.0.0.0.0.0.1, ne_eqb _ _ r.0.0.0.0.0.1, ne_eqb _ _ r.0.0.0.0.1, ne_eqb _ _ r.0.0.0.1, ne_eqb _ _ r.0.0.1, ne_eqb _ _ r.0.1, ne_eqb _ _ r.1), search rules)
+returns-in_default c = (simp (ne_eqb c.args.b 110 (λ e. omega arith), ne_eqb c.args.b 34 (λ e. omega arith), ne_eqb c.args.b 92 (λ e. omega arith), ne_eqb c.args.b 116 (λ e. omega arith), ne_eqb c.args.b 114 (λ e. omega arith), ne_eqb c.args.b 47 (λ e. omega arith), ne_eqb c.args.b 98 (λ e. omega arith), ne_eqb c.args.b 102 (λ e. omega arith)), search rules)

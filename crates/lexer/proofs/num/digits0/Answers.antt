@@ -1,7 +1,5 @@
 -- `num::digits0` meets its contract. Assumes nothing.
 use mathlib.Core.Path.{sym, ◌∙◌}
-use Prim.Native.Nat.{◌-◌}
-use borrow.Author.Tests.{not-true, not-false}
 use Rattle.lexer.specs.Word.{digit}
 use Rattle.lexer.proofs.Past.{start, more, stop, all}
 use borrow.Author.Rules.{rules}
@@ -11,10 +9,10 @@ pub loop-i-init : goal.loop-i-init
 loop-i-init c = start _ _ _ (search rules)
 
 pub returns-then-not-digit : goal.returns-then-not-digit
-returns-then-not-digit c = stop digit _ _ _ c.loop-i.invariant (search rules) (sym c.digit.ensures ∙ not-true _ c.if-not-digit.true)
+returns-then-not-digit c = stop digit _ _ _ c.loop-i.invariant (search rules) (sym c.digit.ensures ∙ c.if-not-digit.true)
 
 pub loop-i-preserved : goal.loop-i-preserved
-loop-i-preserved c = more digit _ _ _ c.loop-i.invariant (search rules) (sym c.digit.ensures ∙ not-false _ c.if-not-digit.false)
+loop-i-preserved c = more digit _ _ _ c.loop-i.invariant (search rules) (sym c.digit.ensures ∙ c.if-not-digit.false)
 
 pub returns : goal.returns
 returns c = all digit _ _ _ c.loop-i.invariant c.loop-i-test.false

@@ -1,6 +1,5 @@
 -- `space::blanks` meets its contract: the invariant is the count of the bytes passed, of which each adds at most one. Assumes nothing.
 use mathlib.Core.Path.{◌≡◌, ap, ◌∙◌}
-use Prim.Native.Nat.{◌-◌}
 use native.Mathlib.Omega.{arith}
 use Rattle.lexer.specs.Meets.{counts}
 use Rattle.lexer.proofs.Counts.{counts-more}

@@ -1,5 +1,4 @@
 -- `space::goes_on` meets its contract: backslashes are counted from the end of the line back. Assumes nothing.
-use Prim.Native.Nat.{◌-◌}
 use Rattle.lexer.proofs.Lines.{count-start, count-more, count-stop, count-all}
 use Rattle.lexer.proofs.space.goes_on.Goals as goal
 

@@ -1,5 +1,4 @@
 -- `space::line_end` meets its contract. Assumes nothing.
-use Prim.Native.Nat.{◌-◌}
 use Rattle.lexer.specs.Space.{in_line}
 use Rattle.lexer.proofs.Lines.{in-line, at-newline}
 use Rattle.lexer.proofs.Past.{more, stop, all}

@@ -1,5 +1,4 @@
 -- `space::long_line` meets its contract: a block that has no newline is passed whole. Assumes nothing.
-use Prim.Native.Nat.{◌-◌}
 use native.Mathlib.Omega.{arith}
 use Rattle.lexer.proofs.Past.{start}
 use Rattle.lexer.proofs.Lines.{going-block}

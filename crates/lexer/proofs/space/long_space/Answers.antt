@@ -1,5 +1,4 @@
 -- `space::long_space` meets its contract: a block of spaces is passed whole. Assumes nothing.
-use Prim.Native.Nat.{◌-◌}
 use native.Mathlib.Omega.{arith}
 use Rattle.lexer.proofs.Spacing.{begin, spaces-block}
 use borrow.Author.Rules.{rules}

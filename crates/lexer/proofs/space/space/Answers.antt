@@ -1,6 +1,4 @@
 -- `space::space` meets its contract: the outer loop over blanks and comments, the inner one over the lines of a comment. Assumes nothing.
-use Prim.Native.Nat.{◌-◌}
-use borrow.Author.Tests.{not-true, not-false}
 use Rattle.lexer.proofs.Spacing.{begin, on, one-blank, one-comment, no-comment, line_on, line-moves, line-off}
 use native.Mathlib.Omega.{arith}
 use borrow.Author.Rules.{rules}
@@ -16,13 +14,13 @@ pub lines-init : goal.lines-init
 lines-init c = one-comment _ _ _ _ _ (on _ _ _ _ c.space.invariant c.spaces-at.ensures) c.blank-n.ensures c.if-n-gt0.false c.byte_at.ensures c.if-byte_at-ne35.false
 
 pub space-preserved : goal.space-preserved
-space-preserved c = line-off _ _ _ _ _ _ _ c.lines.invariant c.line_end-end.ensures c.goes_on-on.ensures c.next_line-at.ensures (not-true _ c.if-not-on.true)
+space-preserved c = line-off _ _ _ _ _ _ _ c.lines.invariant c.line_end-end.ensures c.goes_on-on.ensures c.next_line-at.ensures c.if-not-on.true
 
 pub lines-smaller : goal.lines-smaller
-lines-smaller c = omega (arith, line-moves _ _ _ _ _ _ _ c.lines.invariant c.line_end-end.ensures c.goes_on-on.ensures c.next_line-at.ensures (not-false _ c.if-not-on.false), c.next_line-at.ensures.high)
+lines-smaller c = omega (arith, line-moves _ _ _ _ _ _ _ c.lines.invariant c.line_end-end.ensures c.goes_on-on.ensures c.next_line-at.ensures c.if-not-on.false, c.next_line-at.ensures.high)
 
 pub lines-preserved : goal.lines-preserved
-lines-preserved c = line_on _ _ _ _ _ _ _ c.lines.invariant c.line_end-end.ensures c.goes_on-on.ensures c.next_line-at.ensures (not-false _ c.if-not-on.false)
+lines-preserved c = line_on _ _ _ _ _ _ _ c.lines.invariant c.line_end-end.ensures c.goes_on-on.ensures c.next_line-at.ensures c.if-not-on.false
 
 pub returns : goal.returns
 returns c = no-comment _ _ _ _ _ (on _ _ _ _ c.space.invariant c.spaces-at.ensures) c.blank-n.ensures c.if-n-gt0.false c.byte_at.ensures c.if-byte_at-ne35.true

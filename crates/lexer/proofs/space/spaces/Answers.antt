@@ -1,5 +1,4 @@
 -- `space::spaces` meets its contract. Assumes nothing.
-use Prim.Native.Nat.{◌-◌}
 use Rattle.lexer.proofs.Spacing.{space-more}
 use Rattle.lexer.proofs.space.spaces.Goals as goal
 

@@ -1,7 +1,5 @@
 -- `sym::operators` meets its contract. Assumes nothing.
 use mathlib.Core.Path.{sym, ◌∙◌}
-use Prim.Native.Nat.{◌-◌}
-use borrow.Author.Tests.{not-true, not-false}
 use Rattle.lexer.specs.Sym.{follows}
 use Rattle.lexer.proofs.Past.{start, more, stop, all}
 use borrow.Author.Rules.{rules}
@@ -11,10 +9,10 @@ pub loop-i-init : goal.loop-i-init
 loop-i-init c = start _ _ _ (search rules)
 
 pub returns-then-not-follows : goal.returns-then-not-follows
-returns-then-not-follows c = stop follows _ _ _ c.loop-i.invariant (search rules) (sym c.follows.ensures ∙ not-true _ c.if-not-follows.true)
+returns-then-not-follows c = stop follows _ _ _ c.loop-i.invariant (search rules) (sym c.follows.ensures ∙ c.if-not-follows.true)
 
 pub loop-i-preserved : goal.loop-i-preserved
-loop-i-preserved c = more follows _ _ _ c.loop-i.invariant (search rules) (sym c.follows.ensures ∙ not-false _ c.if-not-follows.false)
+loop-i-preserved c = more follows _ _ _ c.loop-i.invariant (search rules) (sym c.follows.ensures ∙ c.if-not-follows.false)
 
 pub returns : goal.returns
 returns c = all follows _ _ _ c.loop-i.invariant c.loop-i-test.false

@@ -9,9 +9,9 @@ use Rattle.lexer.proofs.token.Token.opt_as_str.Goals as goal
 pub returns-in-Token : goal.returns-in-Token
 returns-in-Token c =
     let a = c.args in
-    c.as_str.ensures ∙ ap (λ (found : Found). opt_as_str found a.text.now a.code.now) (sym c.in-Token.given.1)
+    c.as_str.ensures ∙ ap (λ (found : Found). opt_as_str found a.text.now a.code.now) (sym c.in-Token.is)
 
 pub returns-in-Nothing : goal.returns-in-Nothing
 returns-in-Nothing c =
     let a = c.args in
-    from (length a.code.now) a.code.now ∙ ap (λ (found : Found). opt_as_str found a.text.now a.code.now) (sym c.in-Nothing.given.1)
+    from (length a.code.now) a.code.now ∙ ap (λ (found : Found). opt_as_str found a.text.now a.code.now) (sym c.in-Nothing.is)
