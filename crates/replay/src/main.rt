@@ -10,14 +10,15 @@
 
 #![tactic(auto)]
 
-ghost use Rattle.std.specs.Prelude.{◌≡◌, ◌+◌, ◌≤◌, ◌<◌, ◌^◌, length, take};
+ghost use Rattle.std.specs.Prelude.{◌≡◌, ◌+◌, ◌≤◌, ◌<◌, ◌^◌, length, take, IfOk};
 ghost use Rattle.replay.specs.Case.{number_at, record_of, room_of, Whole};
 ghost use Rattle.replay.specs.Lent.{pattern_at, Patterned, due_at, Left, Tells};
 ghost use Rattle.replay.specs.Replay.{Recorded, Calls, Shows};
 ghost use Rattle.replay.specs.Count.{Few, Tallies, CanGrow, Counted, Replayed, Turned, Held, Ended};
 
 use fields::Answer;
-use libc::{STDIN_FILENO, STDOUT_FILENO};
+use std::io;
+use std::io::Read;
 
 // What a call by an entry's byte gives.
 #[derive(Clone, Copy)]
@@ -243,46 +244,70 @@ fn ends(sample: &[u8], at: usize) -> bool
     true
 }
 
-fn print_entry(name: &[u8], entry: u8, cases: &[u64; 256], mismatches: &[u64; 256]) {
+fn print_entry(
+    rt: &impl Print,
+    name: &str,
+    entry: u8,
+    cases: &[u64; 256],
+    mismatches: &[u64; 256],
+) -> io::Result<()> {
     let i = wide(entry);
-    io::write_all(STDOUT_FILENO, name);
-    io::write_all(STDOUT_FILENO, b": ");
-    io::print_decimal(STDOUT_FILENO, cases[i]);
-    io::write_all(STDOUT_FILENO, b" cases, ");
-    io::print_decimal(STDOUT_FILENO, mismatches[i]);
-    io::write_all(STDOUT_FILENO, b" mismatches\n");
+    let all = cases[i];
+    let missed = mismatches[i];
+    println!(rt; "{name}: {all} cases, {missed} mismatches")
 }
 
 // A line for each entry.
-fn print_entries(cases: &[u64; 256], mismatches: &[u64; 256]) {
-    print_entry(b"climb", 1, cases, mismatches);
-    print_entry(b"lex", 2, cases, mismatches);
+fn print_entries(rt: &impl Print, cases: &[u64; 256], mismatches: &[u64; 256]) -> io::Result<()> {
+    print_entry(rt, "climb", 1, cases, mismatches)?;
+    print_entry(rt, "lex", 2, cases, mismatches)
 }
 
-fn print_end(sample: &[u8], at: usize)
+fn print_end(rt: &impl Print, sample: &[u8], at: usize) -> io::Result<()>
     requires { at ≤ length sample.now }
 {
     if ends(sample, at) {
-        io::write_all(STDOUT_FILENO, b"sample whole\n");
-        return;
+        return println!(rt; "sample whole");
     }
-    io::write_all(STDOUT_FILENO, b"sample broken at ");
-    io::print_decimal(STDOUT_FILENO, at as u64);
-    io::write_all(STDOUT_FILENO, b"\n");
+    println!(rt; "sample broken at {at}")
 }
 
-fn report(sample: &[u8], room: &mut [u8]) {
+fn report(rt: &impl Print, sample: &[u8], room: &mut [u8]) -> io::Result<()> {
     let mut cases = [0u64; 256];
     let mut mismatches = [0u64; 256];
     let at = replay(sample, room, &mut cases, &mut mismatches);
-    print_entries(&cases, &mismatches);
-    print_end(sample, at);
+    print_entries(rt, &cases, &mismatches)?;
+    print_end(rt, sample, at)
+}
+
+// Reads until `bytes` is full or the input ends, and gives how many were read.
+fn read_full(input: &mut impl Read, bytes: &mut [u8]) -> io::Result<usize>
+    ensures { IfOk result (λ n. n ≤ length bytes.old) }
+{
+    let mut n = 0;
+    while n < bytes.len() {
+        let more = input.read(&mut bytes[n..])?;
+        if more == 0 {
+            return Ok(n);
+        }
+        n += more;
+    }
+    Ok(n)
 }
 
 // At most 524,288 bytes are read: a longer sample is cut there.
-fn main() {
+fn run(
+    rt: &impl Print,
+    input: &mut impl Read,
+    sample: &mut [u8; 524288],
+    room: &mut [u8; 131072],
+) -> io::Result<()> {
+    let n = read_full(input, sample)?;
+    report(rt, &sample[..n], room)
+}
+
+fn main(rt: HostRuntime) -> io::Result<()> {
     let mut sample = [0u8; 524288];
     let mut room = [0u8; 131072];
-    let n = io::read_full(STDIN_FILENO, &mut sample);
-    report(&sample[..n], &mut room);
+    run(&rt, &mut rt.stdin(), &mut sample, &mut room)
 }
