@@ -8,7 +8,7 @@ use native.Mathlib.Omega.{arith}
 use Rattle.fields.specs.declared.Answer.{Answer}
 use Rattle.fields.specs.Outcome.{Answers}
 use Rattle.fields.specs.Promises.{one_answer}
-use Rattle.climber.specs.Row.{count, tighter, longest, leftmost, rightmost}
+use Rattle.climber.specs.Row.{count, tighter, leftmost, rightmost}
 use Rattle.climber.specs.Climbing.{climbing}
 use Rattle.climber.proofs.Rows.{longest-in, longest-end, none, holds}
 

@@ -2,19 +2,17 @@
 -- climbed is the nearest earlier one that holds the operators in it. Assumes nothing.
 use mathlib.Core.Path.{◌≡◌, refl, sym, ap, ◌∙◌, fun_ext}
 use mathlib.Core.Bool.{Bool, true, false, true≢false}
-use mathlib.Core.List.{List, [], ◌∷◌}
+use mathlib.Core.List.{List}
 use mathlib.Core.Logic.{◌⊎◌, inl, inr, ⊎_elim}
-use Prim.Native.Nat.{ℕ, zero, suc, ◌+◌, ◌-◌, ◌*◌, ◌/◌, ◌%◌, ◌≤◌, ◌<◌}
+use Prim.Native.Nat.{ℕ, zero, suc, ◌+◌, ◌-◌, ◌≤◌, ◌<◌}
 use native.Mathlib.Nat.{zero-add, add-zero, eq-or-lt_of_le, le_of_suc-le-suc}
 use native.Mathlib.Omega.{arith}
-use native.Mathlib.Decide.{dec_lt, dec_le}
-use lib.ListN.{length, get_or}
+use native.Mathlib.Decide.{dec_lt}
 use lib.Dec.{ltb, leb, eqb}
-use borrow.Author.Tests.{lt-ltb, le-ltb, le-leb, lt-leb, eq-eqb, ne_eqb, leb-true, leb-false, ltb-true, ltb-false}
+use borrow.Author.Tests.{lt-ltb, le-ltb, le-leb, lt-leb, eq-eqb, ne_eqb, leb-true, leb-false}
 use Rattle.fields.specs.Outcome.{pick}
 use Rattle.climber.specs.Row.{count, precedence, side, tighter, longest, rightmost, nearest, leftmost}
-use Rattle.climber.specs.Climbing.{formed}
-use Rattle.climber.specs.Climb.{least, tight, climbed, Formed, Starts}
+use Rattle.climber.specs.Climb.{least, climbed, Formed, Starts}
 
 -- ---- a longest row
 

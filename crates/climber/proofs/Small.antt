@@ -1,14 +1,14 @@
 -- How large an answer gets: who packs it into a word relies on this. Assumes nothing.
-use mathlib.Core.Path.{◌≡◌, refl, ap, ◌∙◌, subst⁻¹}
+use mathlib.Core.Path.{◌≡◌, refl}
 use mathlib.Core.Bool.{Bool, true, false}
 use mathlib.Core.List.{List, ◌++◌}
-use Prim.Native.Nat.{ℕ, ◌+◌, ◌*◌, ◌≤◌, ◌<◌}
+use Prim.Native.Nat.{ℕ, ◌≤◌}
 use native.Mathlib.Omega.{arith}
 use lib.ListN.{length}
 use lib.Dec.{ltb, leb}
 use borrow.Author.Tests.{ltb-false}
 use Rattle.fields.specs.declared.Answer.{Answer}
-use Rattle.fields.specs.Outcome.{Outcome, listing, refusal, pick, answer, Answers}
+use Rattle.fields.specs.Outcome.{listing, refusal, pick, answer, Answers}
 use Rattle.climber.specs.Row.{count}
 use Rattle.climber.specs.Climbing.{formed, operators, opening, climbing}
 use Rattle.climber.proofs.Operators.{listing-length}

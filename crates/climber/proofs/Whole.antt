@@ -1,19 +1,17 @@
 -- The entry's returns: each test that led there is one of the definition's. Assumes nothing.
-use mathlib.Core.Path.{◌≡◌, refl, sym, ap, ◌∙◌}
+use mathlib.Core.Path.{◌≡◌, sym, ◌∙◌}
 use mathlib.Core.Bool.{true, false}
 use mathlib.Core.List.{List, [], ◌∷◌, ◌++◌}
 use Prim.Native.Nat.{ℕ, ◌+◌, ◌-◌, ◌*◌, ◌≤◌, ◌<◌}
 use native.Mathlib.Omega.{arith}
 use lib.ListN.{length}
-use lib.Dec.{leb}
-use borrow.Author.Tests.{lt-ltb, le-ltb, le-leb}
-use Rattle.fields.specs.declared.Answer.{Answer}
+use borrow.Author.Tests.{lt-ltb, le-ltb}
 use Rattle.fields.specs.Number.{number}
 use Rattle.fields.specs.Field.{field}
-use Rattle.fields.specs.Outcome.{Outcome, listing, refusal, Answers}
+use Rattle.fields.specs.Outcome.{Answers}
 use Rattle.fields.specs.Promises.{refused, short, listed}
 use Rattle.fields.specs.Room.{overlay, overlay-append}
-use Rattle.climber.specs.Row.{count, precedence}
+use Rattle.climber.specs.Row.{count}
 use Rattle.climber.specs.Climbing.{formed, operators, opening, climbing}
 use Rattle.climber.specs.Climb.{climbed, Climbs}
 use Rattle.climber.proofs.Rows.{climbed-low, climbed-high, climbed-skip}

@@ -1,5 +1,5 @@
 -- How climbing finds the rows: what one call of `climb1` is handed, and what it gives. A row of operators is found by the least precedence that it may hold.
-use Rattle.std.specs.Prelude.{◌≡◌, Bool, false, List, ℕ, suc, ◌+◌, ◌-◌, ◌*◌, ◌%◌, ◌≤◌, ◌<◌, length, ltb, leb}
+use Rattle.std.specs.Prelude.{◌≡◌, Bool, false, List, ℕ, ◌+◌, ◌-◌, ◌*◌, ◌%◌, ◌≤◌, ◌<◌, length, ltb, leb}
 use Rattle.fields.specs.Room.{overlay}
 use Rattle.fields.specs.Outcome.{pick}
 use Rattle.climber.specs.Row.{count, precedence, side, longest, leftmost, rightmost}

@@ -1,5 +1,5 @@
 -- Document 01's starred case, computed by the definitions.
-use Rattle.std.specs.Prelude.{◌≡◌, refl, true, List, [], ◌∷◌, ℕ}
+use Rattle.std.specs.Prelude.{◌≡◌, refl, List, [], ◌∷◌, ℕ}
 use Rattle.climber.specs.Row.{leftmost, rightmost, nearest, longest, tighter}
 
 -- "Equal precedence, a R b L c R d: a R ((b L c) R d)". The operands a, b, c, d are 0 to 3: the first operator takes a and b to d, the second b and c,

@@ -1,11 +1,10 @@
 -- A copy into a room, byte by byte: after i bytes the room holds the first i of them. Assumes nothing.
-use mathlib.Core.Path.{◌≡◌, refl, sym, ap, ◌∙◌}
-use mathlib.Core.List.{List, [], ◌∷◌, ◌++◌}
-use Prim.Native.Nat.{ℕ, suc, ◌+◌, ◌-◌, ◌≤◌, ◌<◌}
-use native.Mathlib.Nat.{add-zero}
+use mathlib.Core.Path.{◌≡◌, sym, ap, ◌∙◌}
+use mathlib.Core.List.{List, [], ◌∷◌}
+use Prim.Native.Nat.{ℕ, ◌+◌, ◌≤◌, ◌<◌}
 use native.Mathlib.Numerals.{add-one}
 use native.Mathlib.Omega.{arith}
-use lib.ListN.{length, take, drop, get_or, set, length-append, take-append-drop}
+use lib.ListN.{length, take, drop, get_or, set, take-append-drop}
 use lib.Seq.{take-suc, take_all, length-take-le}
 use Rattle.fields.specs.Room.{overlay, overlay-none, overlay-one, overlay-append, overlay-out, length-overlay}
 

@@ -1,6 +1,6 @@
 -- Document 01: "One-byte tag, two-byte length, little-endian throughout". Assumes nothing.
-use Rattle.std.specs.Prelude.{◌≡◌, refl, List, [], ◌∷◌, ◌++◌, ℕ, suc, ◌+◌, length}
-use Rattle.std.proofs.Common.{ap, ◌∙◌, arith, length-append}
+use Rattle.std.specs.Prelude.{◌≡◌, List, ◌∷◌, ◌++◌, ℕ, ◌+◌, length}
+use Rattle.std.proofs.Common.{arith, length-append}
 use Rattle.fields.specs.Number.{number, length-number}
 
 -- a field: its tag, the length of its content, the content

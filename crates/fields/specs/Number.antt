@@ -1,7 +1,7 @@
 -- Numbers as bytes, at any width. Document 01: "little-endian throughout, numbers in two bytes unless said". The width is a parameter, so that
 -- what holds of two bytes is said once and holds of four and of eight. Assumes nothing.
-use Rattle.std.specs.Prelude.{◌≡◌, refl, List, [], ◌∷◌, ◌++◌, ℕ, zero, suc, ◌+◌, ◌*◌, ◌/◌, ◌%◌, ◌^◌, ◌<◌, length}
-use Rattle.std.proofs.Common.{ap, ◌∙◌, add_comm, div-lt_iff_lt-mul, pow-suc, arith}
+use Rattle.std.specs.Prelude.{◌≡◌, refl, List, [], ◌∷◌, ℕ, zero, suc, ◌+◌, ◌*◌, ◌/◌, ◌%◌, ◌^◌, ◌<◌, length}
+use Rattle.std.proofs.Common.{ap, add_comm, div-lt_iff_lt-mul, pow-suc, arith}
 use Rattle.std.proofs.Math.Nat.{div-add-mod}
 
 -- n in w bytes, the lowest first

@@ -1,7 +1,7 @@
 -- What every entry promises by `Answers`, in a reader's words: one answer, nothing changed by a refusal, nothing past the length by a listing.
-use Rattle.std.specs.Prelude.{◌≡◌, refl, Bool, true, false, List, ◌++◌, ℕ, ◌≤◌, ◌<◌, length, take, drop, leb}
-use Rattle.std.proofs.Common.{sym, ◌∙◌, arith, le-leb}
-use Rattle.std.proofs.Math.Seq.{drop-append_seam, take-append_seam}
+use Rattle.std.specs.Prelude.{◌≡◌, refl, Bool, true, false, List, ◌++◌, ℕ, ◌≤◌, ◌<◌, length, drop, leb}
+use Rattle.std.proofs.Common.{sym, ◌∙◌, le-leb}
+use Rattle.std.proofs.Math.Seq.{drop-append_seam}
 use Rattle.std.proofs.lemmas.Bool.{lt-leb}
 use Rattle.fields.specs.declared.Answer.{Answer}
 use Rattle.fields.specs.Room.{overlay, overlay-front}

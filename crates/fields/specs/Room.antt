@@ -1,10 +1,10 @@
 -- What lent room holds after a run of stores. `overlay d at bs` is the content d with bs written from at on; where d ends, so does the writing,
 -- so that "write what there is room for" needs no side condition, and neither do the laws that put two runs together. Assumes nothing.
-use Rattle.std.specs.Prelude.{◌≡◌, ◌≢◌, set, take, drop}
+use Rattle.std.specs.Prelude.{◌≡◌, set, drop}
 use Rattle.std.proofs.Math.Path.{refl, ap}
-use Rattle.std.proofs.Common.{sym, ◌∙◌, length-set}
+use Rattle.std.proofs.Common.{◌∙◌}
 use mathlib.Core.List.{List, [], ◌∷◌, ◌++◌}
-use Prim.Native.Nat.{ℕ, zero, suc, ◌+◌, ◌≤◌, ◌<◌}
+use Prim.Native.Nat.{ℕ, suc, ◌+◌, ◌≤◌, ◌<◌}
 use Rattle.std.proofs.Math.Nat.{add-zero, zero-add}
 use native.Mathlib.Omega.{arith}
 use Rattle.std.proofs.Math.ListN.{length}

@@ -1,6 +1,6 @@
 -- A character's bytes behind their length. Assumes nothing.
 use mathlib.Core.Path.{◌≡◌, refl, ap, ◌∙◌}
-use mathlib.Core.List.{List, ◌∷◌, ◌++◌}
+use mathlib.Core.List.{List, ◌∷◌}
 use Prim.Native.Nat.{ℕ, ◌+◌, ◌≤◌, ◌<◌}
 use native.Mathlib.Omega.{arith}
 use lib.ListN.{length, get_or, set, take}

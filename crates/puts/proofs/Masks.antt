@@ -1,16 +1,14 @@
 -- Tail sets: the code's words and the rules' sets. Assumes nothing.
 use mathlib.Core.Path.{◌≡◌, refl, sym, ap, ◌∙◌}
-use mathlib.Core.Bool.{Bool, true, false, cond, not}
 use mathlib.Core.Logic.{◌⊎◌, inl, inr}
 use Prim.Native.Nat.{ℕ, ◌+◌, ◌-◌, ◌*◌, ◌%◌, ◌^◌, ◌≤◌, ◌<◌}
 use native.Mathlib.Nat.{mod-eq_of_lt}
 use native.Mathlib.Omega.{arith}
-use lib.Dec.{eqb, ltb}
 use lib.Bits.{bit_and, and_self, and_zero_l}
 use lib.Count.{ones, ones_in, ones_cat}
 use lib.Pow.{pow-lt, pow_pos}
 use borrow.Author.Tests.{lt-ltb, le-ltb, eq-eqb, ne_eqb}
-use Rattle.rules.specs.Table.{Kind, kind_number, inline, catch_one}
+use Rattle.rules.specs.Table.{kind_number}
 use Rattle.rules.specs.Tails.{bit, has, without, subset, parent, sibling, local_call, module_kind}
 
 pub shl-bit : (l : ℕ) → l < 64 → (1 * 2 ^ l) % 2 ^ 64 ≡ bit l

@@ -1,7 +1,7 @@
 -- Eight bytes, written as four numbers of two. Assumes nothing.
 use mathlib.Core.Path.{◌≡◌, refl, sym, ap, ◌∙◌}
-use mathlib.Core.List.{List, [], ◌∷◌, ◌++◌}
-use Prim.Native.Nat.{ℕ, ◌+◌, ◌/◌, ◌%◌, ◌^◌}
+use mathlib.Core.List.{◌++◌}
+use Prim.Native.Nat.{ℕ, ◌/◌, ◌%◌}
 use lib.Pow.{field, mod-mod-pow, shr-shr}
 use Rattle.fields.specs.Number.{number}
 

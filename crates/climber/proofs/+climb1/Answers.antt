@@ -1,5 +1,4 @@
 use mathlib.Core.Path.{refl, sym, ◌∙◌}
-use Prim.Native.Nat.{◌-◌}
 use native.Mathlib.Omega.{arith}
 use Rattle.climber.proofs.Turns.{tight-yes, begin, asks, passed, within, again, done, alone}
 use borrow.Author.Rules.{rules}

@@ -1,6 +1,5 @@
 -- `climber::formed` meets its contract: the row is well formed exactly if what is left of it is. Assumes nothing.
 use mathlib.Core.Path.{sym, ◌∙◌}
-use Prim.Native.Nat.{◌-◌}
 use native.Mathlib.Omega.{arith}
 use Rattle.climber.proofs.Operators.{formed-odd, formed-bad, formed-next, formed-all}
 use Rattle.climber.proofs.formed.Goals as goal

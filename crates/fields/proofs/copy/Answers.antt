@@ -1,5 +1,4 @@
 -- `fields::copy` meets its contract: after i turns the room holds the first i bytes. Assumes nothing.
-use Prim.Native.Nat.{◌-◌}
 use lib.ListN.{length-set}
 use Rattle.fields.proofs.Copying.{none, more, all}
 use borrow.Author.Rules.{rules}

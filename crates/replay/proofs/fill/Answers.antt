@@ -1,5 +1,4 @@
 -- `replay::fill` meets its contract: after i turns the room has the pattern below i. Assumes nothing.
-use Prim.Native.Nat.{◌-◌}
 use lib.ListN.{length-set}
 use native.Mathlib.Omega.{arith}
 use Rattle.replay.proofs.Rooms.{fill_more, fill-all}

@@ -1,5 +1,4 @@
 -- `replay::left` meets its contract: after i turns the room is as it must be below i. Assumes nothing.
-use Prim.Native.Nat.{◌-◌}
 use borrow.Author.Count.{below_more}
 use mathlib.Core.Path.{sym, ◌∙◌}
 use Rattle.replay.proofs.Rooms.{short, differs, equals}

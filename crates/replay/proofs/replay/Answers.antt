@@ -1,5 +1,4 @@
 -- `replay::replay` meets its contract: before `at` stand whole cases, which hold where no mismatch is counted. What is left of the sample falls. Assumes nothing.
-use Prim.Native.Nat.{◌-◌}
 use mathlib.Core.Path.{refl, ◌∙◌}
 use native.Mathlib.Omega.{arith}
 use Rattle.replay.specs.Count.{none, more}

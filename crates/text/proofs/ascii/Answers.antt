@@ -1,6 +1,5 @@
 -- `text::ascii` meets its contract: each byte passed is a sequence of one byte.
 -- Assumes nothing.
-use Prim.Native.Nat.{◌-◌}
 use Rattle.text.proofs.Longest.{along-here, along-ascii}
 use Rattle.text.proofs.ascii.Goals as goal
 

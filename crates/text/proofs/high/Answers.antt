@@ -1,7 +1,7 @@
 -- `text::high` meets its contract: the invariant is the count of the bytes passed, of which each adds at most one.
 -- Assumes nothing.
 use mathlib.Core.Path.{◌≡◌, ap, ◌∙◌}
-use Prim.Native.Nat.{◌+◌, ◌-◌}
+use Prim.Native.Nat.{◌+◌}
 use native.Mathlib.Omega.{arith}
 use Rattle.text.specs.Along.{highs}
 use Rattle.text.proofs.Longest.{highs-more}

@@ -1,6 +1,5 @@
 -- `text::prefix` meets its contract: the valid bytes end at the same place, seen from the start and from `i`.
 -- Assumes nothing.
-use Prim.Native.Nat.{◌-◌}
 use Rattle.text.proofs.Longest.{along-along, along-stop, along-end, along-more}
 use Rattle.text.proofs.prefix.Goals as goal
 

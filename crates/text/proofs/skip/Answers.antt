@@ -1,6 +1,5 @@
 -- `text::skip` meets its contract: a block that has no byte of 80 or more is passed whole.
 -- Assumes nothing.
-use Prim.Native.Nat.{◌-◌}
 use native.Mathlib.Omega.{arith}
 use Rattle.text.proofs.Longest.{along-here, along-block}
 use borrow.Author.Rules.{rules}

@@ -1,6 +1,6 @@
 -- `put::put_char` meets its contract: after i turns the first i bytes of the character stand behind the length. Assumes nothing.
 use mathlib.Core.Path.{sym}
-use Prim.Native.Nat.{◌+◌, ◌-◌}
+use Prim.Native.Nat.{◌+◌}
 use native.Mathlib.Omega.{arith}
 use Rattle.fields.specs.Room.{overlay-none}
 use Rattle.text.specs.Utf8.{utf8}
