@@ -21,9 +21,9 @@ use Rattle.walks.specs.TreeWalk.{View, Entry, Spot, body_place}
 use Rattle.walks.specs.TableWalk as ByNumber
 use Rattle.walks.specs.TableWalk.{Cells, Cell}
 use Rattle.walks.specs.Together.{all_imported, all_globals, PlaceAt, Alike, al_end, al_entry, al_filter, SameEntry, s_imported, s_global, s_var, s_value, s_label, s_arg}
-use Rattle.walks.specs.Holds.{Holds, place_at}
-use Rattle.walks.specs.Agree.{Agree, ag_end, ag_var, ag_value, ag_label, ag_arg, ag_filter, ending}
-use Rattle.walks.specs.Match.{Plain, Held, Match, entry_out}
+use Rattle.walks.proofs.Holds.{Holds, place_at}
+use Rattle.walks.proofs.Agree.{Agree, ag_end, ag_var, ag_value, ag_label, ag_arg, ag_filter, ending}
+use Rattle.walks.proofs.Match.{Plain, Held, Match, entry_out}
 
 var-place : (p : ℕ) (x : Err) (i : Option ℕ) → (var_out p x i).self.place ≡ p
 unfolding var_out
