@@ -1,7 +1,7 @@
 -- Bytes come to one thing only. Assumes nothing.
-use Rattle.std.specs.Prelude.{ℕ, ◌≤◌, ◌≡◌, List}
+use Rattle.std.specs.Prelude.{ℕ, ◌≡◌, List}
 use Rattle.std.proofs.Common.{ap}
-use Rattle.fields.specs.Outcome.{Outcome, refusal, Answers}
+use Rattle.fields.specs.Outcome.{Outcome, refusal}
 use Rattle.tree.proofs.Promises.{one-tree, one-verdict}
 use Rattle.rules.specs.Listing.{compiling}
 use Rattle.rules.specs.Entry.{Comes, refused, compiled}

@@ -13,9 +13,9 @@ use Rattle.tree.specs.Tree.{Name, Term, OptTerm, no_term, a_term, Terms, ts_nil,
 use Rattle.rules.specs.Names.{Text, same, ascii}
 use Rattle.rules.specs.Table.{Pat, Pats, Folding, reduce, foreach, Step, Node, n_num, n_int, n_str, n_arr, n_obj_empty, n_obj_single, n_label, n_neg, n_pipe, n_try_catch, n_path, Rec, Err}
 use Rattle.rules.specs.Tails.{Tail, empty, bit, union, sibling}
-use Rattle.rules.specs.Rows.{Filter, Env, label, filter, level, filter_of, inside, push_vars, filters, params}
+use Rattle.rules.specs.Rows.{Filter, Env, label, filter, level, filter_of, inside, push_vars, filters}
 use Rattle.rules.specs.Filters.{Top, Found, nothing, argument, local, of_module, of_native}
-use Rattle.rules.specs.Outs.{Out, slot, size, node, leaf, Made, bare, binds, call_out, var_out, are_digits, decimal, numeral, binary, left_allows, right_allows, ite_out, sum_out, sum_or, pair_out, lone_out, var_name, vars, vars_of, arity}
+use Rattle.rules.specs.Outs.{Out, slot, size, leaf, Made, bare, binds, call_out, var_out, are_digits, decimal, numeral, binary, left_allows, right_allows, ite_out, sum_out, sum_or, pair_out, lone_out, var_name, vars, vars_of, arity}
 use Rattle.rules.specs.Rules.{Waiting, called, empty_out, format_out, end_of_fold, out_of_fold, term, or_empty, args, waiting, branches, defs, body, pattern, elements, keyed, opt_pattern, parts, part, bound, strings, string, entries, entry}
 use Rattle.rules.specs.Modules.{top_of, modules, compile}
 use Rattle.rules.specs.Lists.{Every, every_append, every-left, every-right, members, either}

@@ -1,16 +1,12 @@
 -- How many terms are inserted, read off the tree: no name and no error changes it. Document 01: "6: over 4,096 terms inserted, error paths counted".
 -- Assumes nothing.
-use Rattle.std.specs.Prelude.{◌≡◌, Bool, cond}
+use Rattle.std.specs.Prelude.{cond}
 use Rattle.std.proofs.Math.Option.{Option, none, some}
-use mathlib.Core.List.{List, [], ◌∷◌, ◌++◌}
-use Prim.Native.Nat.{ℕ, suc, ◌+◌}
-use native.Mathlib.Omega.{arith}
-use Rattle.tree.specs.Tree.{Name, Term, OptTerm, no_term, a_term, Terms, ts_nil, ts_cons, Branches, b_none, b_else, b_pair, Defs, ds_nil, ds_cons, Def, def, Pattern, p_var, p_arr, p_obj, OptPattern, no_pattern, a_pattern, Patterns, ps_nil, ps_cons, PatEntries, pes_nil, pes_cons, Parts, parts_nil, parts_cons, Part, part_index, part_range, Bound, without_bound, a_bound, StrParts, s_nil, s_cons, StrPart, s_text, s_char, s_term, Entries, es_nil, es_cons, Format, no_format, a_format, operator, text_place, Module, Tree, t_id, t_recurse, t_arr, t_neg, t_label, t_break, t_if_then_else, t_var, t_call, t_def, t_num, t_try_catch, t_fold, t_pipe, t_bin_op, t_path, t_str, t_obj}
+use mathlib.Core.List.{List, [], ◌∷◌}
+use Prim.Native.Nat.{ℕ, ◌+◌}
+use Rattle.tree.specs.Tree.{Term, OptTerm, no_term, a_term, Terms, ts_nil, ts_cons, Branches, b_none, b_else, b_pair, Defs, ds_nil, ds_cons, Def, def, Pattern, p_var, p_arr, p_obj, OptPattern, no_pattern, a_pattern, Patterns, ps_nil, ps_cons, PatEntries, pes_nil, pes_cons, Parts, parts_nil, parts_cons, Part, part_index, part_range, Bound, without_bound, a_bound, StrParts, s_nil, s_cons, StrPart, s_text, s_char, s_term, Entries, es_nil, es_cons, Module, Tree, t_id, t_recurse, t_arr, t_neg, t_label, t_break, t_if_then_else, t_var, t_call, t_def, t_num, t_try_catch, t_fold, t_pipe, t_bin_op, t_path, t_str, t_obj}
 use Rattle.rules.specs.Names.{Text, same, ascii}
-use Rattle.rules.specs.Table.{foreach}
 use Rattle.rules.specs.Outs.{var_name}
-use Rattle.rules.specs.Rules.{defs, body}
-use Rattle.rules.specs.Modules.{modules}
 
 -- ---- the count
 

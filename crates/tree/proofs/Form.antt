@@ -1,5 +1,5 @@
 -- The place of a term or pattern is its field's. Assumes nothing.
-use Rattle.std.specs.Prelude.{ℕ, ◌≡◌, refl, List, [], ◌∷◌, length}
+use Rattle.std.specs.Prelude.{◌≡◌, refl}
 use Rattle.tree.specs.Rose.{place_of}
 use Rattle.tree.specs.Tree.{Term, Pattern, term_place, pattern_place}
 use Rattle.tree.specs.Tree.{t_id, t_recurse, t_arr, t_neg, t_label, t_break, t_if_then_else, t_var, t_call, t_def, t_num, t_try_catch, t_fold, t_pipe, t_bin_op, t_path, t_str, t_obj}

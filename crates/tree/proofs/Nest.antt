@@ -1,9 +1,9 @@
 -- The walk that counts open fields finds few enough exactly where the fields nest so little. Assumes nothing.
-use Rattle.std.specs.Prelude.{ℕ, zero, suc, ◌+◌, ◌≤◌, ◌<◌, max, ◌≡◌, refl, List, [], ◌∷◌, Bool, true, false, cond, eqb, leb, length, get_or}
+use Rattle.std.specs.Prelude.{ℕ, ◌+◌, ◌≤◌, ◌<◌, ◌≡◌, refl, List, [], ◌∷◌, Bool, true, false, cond, length, get_or}
 use Rattle.std.proofs.Math.Nat.{le-max_left, le-max_right}
 use Rattle.std.proofs.Common.{arith, sym, ap, subst, ◌∙◌, le-leb}
 use Rattle.std.proofs.lemmas.Bool.{lt-leb}
-use Rattle.tree.specs.Rose.{Rose, Roses, leaf, node, rnil, rcons, place_of, end_of, At, Row, tagged, row-le}
+use Rattle.tree.specs.Rose.{Rose, Roses, leaf, node, rnil, rcons, place_of, end_of, At, Row, row-le}
 use Rattle.tree.specs.Leaf.{is_leaf_tag}
 use Rattle.tree.specs.Grammar.{Obeys, Obey}
 use Rattle.tree.specs.Scan.{next_of}

@@ -1,5 +1,5 @@
 -- The check of tree bytes can say one thing only, and its limits are those of the walk that counts open fields. Assumes nothing.
-use Rattle.std.specs.Prelude.{ℕ, ◌≤◌, ◌<◌, ◌≡◌, refl, List, [], true, cond, leb, length}
+use Rattle.std.specs.Prelude.{ℕ, ◌≤◌, ◌≡◌, refl, List, [], length}
 use Rattle.std.proofs.Math.Nat.{max-zero}
 use Rattle.std.proofs.Common.{arith}
 use Rattle.tree.specs.Rose.{rnil, rcons}

@@ -1,5 +1,5 @@
 -- Well formed is that there is a tree. Assumes nothing.
-use Rattle.std.specs.Prelude.{ℕ, suc, refl, List, Bool, true, false, length}
+use Rattle.std.specs.Prelude.{ℕ, suc, refl, List, length}
 use Rattle.std.proofs.Common.{arith, subst}
 use Rattle.tree.specs.Rose.{Roses, rnil, rcons, Row}
 use Rattle.tree.specs.Grammar.{row_at}

@@ -1,9 +1,8 @@
 -- How many fields with members there are, all or those of one tag. So many may be open at once and no more: where they are few, nesting need not be looked at.
 -- Assumes nothing.
-use Rattle.std.specs.Prelude.{ℕ, ◌+◌, ◌≤◌, ◌<◌, ◌≡◌, refl, List, Bool, true, false, eqb, length, get_or}
+use Rattle.std.specs.Prelude.{ℕ, ◌+◌, ◌≤◌, ◌<◌, ◌≡◌, List, true, false, length, get_or}
 use Rattle.tree.specs.Leaf.{is_leaf_tag}
 use Rattle.tree.specs.Rose.{Rose, Roses, leaf, node, rnil, rcons, end_of}
-use Rattle.tree.specs.Rose as rose
 use Rattle.tree.specs.Nest.{counts, mark}
 
 unfoldable mutual

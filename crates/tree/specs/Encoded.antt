@@ -1,11 +1,9 @@
 -- The bytes of a tree: "One encoding per tree". Assumes nothing.
-use Prim.Native.Nat.{ℕ, suc, ◌+◌, ◌-◌, ◌*◌, ◌/◌, ◌%◌, ◌≤◌, ◌<◌}
-use native.Mathlib.Omega.{arith}
-use mathlib.Core.List.{List, [], ◌∷◌, ◌++◌, append-nil}
-use Rattle.std.proofs.Math.ListN.{length, get_or, take, drop, length-drop}
+use Prim.Native.Nat.{ℕ, ◌<◌}
+use mathlib.Core.List.{List, [], ◌++◌}
+use Rattle.std.proofs.Math.ListN.{get_or}
 use Rattle.fields.specs.Field.{field}
 use Rattle.tree.specs.Rose.{Rose, Roses, leaf, node, rnil, rcons}
-use Rattle.tree.specs.Rose as rose
 use Rattle.tree.specs.Tree.{Tree}
 use Rattle.tree.specs.Form.{f_tree}
 

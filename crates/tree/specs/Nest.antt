@@ -1,5 +1,5 @@
 -- How many fields are open at once, all or those of one tag; and the walk that counts them. Assumes nothing.
-use Rattle.std.specs.Prelude.{ℕ, zero, suc, ◌+◌, ◌≤◌, ◌<◌, max, ◌≡◌, refl, List, [], ◌∷◌, Bool, true, false, cond, eqb, leb, length, get_or}
+use Rattle.std.specs.Prelude.{ℕ, zero, suc, ◌+◌, ◌≤◌, ◌<◌, max, List, [], ◌∷◌, Bool, true, false, cond, eqb, leb, length, get_or}
 use Rattle.tree.specs.Rose.{Rose, Roses, leaf, node, rnil, rcons, end_of}
 use Rattle.tree.specs.Leaf.{is_leaf_tag}
 use Rattle.tree.specs.Scan.{next_of}

@@ -1,5 +1,5 @@
 -- Well formed, said of each field by itself. Assumes nothing.
-use Rattle.std.specs.Prelude.{ℕ, ◌+◌, ◌≤◌, ◌<◌, suc, zero, ◌≡◌, refl, List, Bool, true, false, length, get_or}
+use Rattle.std.specs.Prelude.{ℕ, ◌+◌, ◌≤◌, ◌<◌, ◌≡◌, List, Bool, true, false, length, get_or}
 use Rattle.tree.specs.Rose.{end_of, text_of}
 use Rattle.tree.specs.Leaf.{class, shape, is_leaf_tag, leaf_ok}
 use Rattle.tree.specs.Grammar.{Items, content, after, ends}

@@ -1,7 +1,7 @@
 -- What the check of tree bytes says, and that it can say one thing only. Document 01: "2: input over 32,768 bytes; 3: .. tree .. not well formed; 4: nesting
 -- .. over 512 in a tree; 5: definitions nested over 64, compiled or not .. The lowest applicable of 2 to 6 and 8 is given .. tree nesting, fields open at
 -- once". 0 is that none of these applies. Assumes nothing.
-use Rattle.std.specs.Prelude.{ℕ, ◌≤◌, ◌<◌, ◌≡◌, refl, List, [], true, cond, leb, length}
+use Rattle.std.specs.Prelude.{ℕ, ◌≤◌, ◌<◌, ◌≡◌, List, true, cond, leb, length}
 use Rattle.tree.specs.Tree.{Tree}
 use Rattle.tree.specs.Form.{At, f_tree}
 use Rattle.tree.specs.Numbers.{numbered}

@@ -1,5 +1,5 @@
 -- Well formed: each header right. Assumes nothing.
-use Rattle.std.specs.Prelude.{ℕ, suc, refl, List, Bool, true, false, length}
+use Rattle.std.specs.Prelude.{ℕ, List, Bool, true, false, length}
 use Rattle.tree.specs.Grammar.{row_at}
 use Rattle.tree.specs.Scan.{Local, All}
 

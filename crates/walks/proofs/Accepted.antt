@@ -1,5 +1,5 @@
 -- An outcome that is a listing of terms: its tree is accepted. Assumes nothing.
-use Rattle.std.specs.Prelude.{ℕ, ◌≤◌, ◌≡◌, refl, Bool, true, false, List, [], ◌∷◌, length, ltb}
+use Rattle.std.specs.Prelude.{ℕ, ◌≡◌, refl, Bool, true, false, List, [], ◌∷◌, length, ltb}
 use Rattle.std.proofs.Common.{arith, sym, ap, ◌∙◌, ltb-false}
 use Rattle.fields.specs.Outcome.{Outcome, listing, refusal, pick}
 use Rattle.tree.specs.Tree.{Tree}
@@ -9,7 +9,7 @@ use Rattle.tree.proofs.Encoded.{encoded}
 use Rattle.rules.specs.Table.{Err}
 use Rattle.rules.specs.Modules.{compile}
 use Rattle.rules.proofs.Count.{table-count}
-use Rattle.rules.specs.Listing.{term_listing, listed, compiling}
+use Rattle.rules.specs.Listing.{listed, compiling}
 use Rattle.walks.specs.Weights.{weigh}
 use Rattle.walks.proofs.Weights.{weigh-bytes}
 use Rattle.walks.specs.Accepted.{Accepted}

@@ -1,13 +1,13 @@
 -- From the contract of `compile` to the two walks: what an answer 0 says of the tree bytes and of the room. Assumes nothing.
-use Rattle.std.specs.Prelude.{ℕ, ◌≤◌, ◌≡◌, refl, Bool, true, false, List, [], ◌∷◌, ◌++◌, length, take, drop, leb, ltb}
-use Rattle.std.proofs.Common.{arith, sym, ap, subst, ◌∙◌}
+use Rattle.std.specs.Prelude.{ℕ, ◌≡◌, refl, Bool, true, false, List, [], ◌∷◌, ◌++◌, length, take, drop, leb, ltb}
+use Rattle.std.proofs.Common.{arith, sym, ap, ◌∙◌}
 use Rattle.std.proofs.Math.Seq.{take-append_seam}
 use Rattle.fields.specs.declared.Answer.{Answer}
 use Rattle.fields.specs.Outcome.{Outcome, listing, refusal, pick, answer, content, Answers}
 use Rattle.tree.specs.Tree.{Tree}
 use Rattle.tree.proofs.Verdicts.{says-zero}
 use Rattle.rules.specs.Table.{Err}
-use Rattle.rules.specs.Modules.{compile, Compiled}
+use Rattle.rules.specs.Modules.{compile}
 use Rattle.rules.specs.Listing.{compiling, listed}
 use Rattle.rules.specs.Entry.{Comes, refused, compiled, Compiles}
 use Rattle.walks.specs.Compiled.{Given, Taken}

@@ -1,7 +1,7 @@
 -- What a reader signs for: the third demand. "For any program accepted without errors: a reader that walks the tree by names and a reader that walks the table by
 -- indices and skip counts make the same moves as often as they like and always stand at matching places with matching binding lists, and every variable or break
 -- picks the same binding." The walks are defined in TreeWalk and TableWalk, what it is to stand together in Together, each under document 01's sentences.
-use Rattle.std.specs.Prelude.{ℕ, zero, suc, ◌≤◌, ◌≡◌, refl, Bool, true, false, List, [], length, take}
+use Rattle.std.specs.Prelude.{ℕ, zero, suc, ◌≤◌, ◌≡◌, refl, List, [], length, take}
 use Rattle.std.proofs.Common.{arith, sym, ap, subst, ◌∙◌}
 use Rattle.std.proofs.Math.Option.{Option, none, some}
 use Rattle.std.proofs.Math.ListN.{get_elem?}

@@ -15,7 +15,7 @@ use Rattle.rules.specs.Tails.{Tail, empty}
 use Rattle.rules.specs.Rows.{Filter, Env, find_label}
 use Rattle.rules.specs.Filters as Filters
 use Rattle.rules.specs.Filters.{Top, variable, meant, error_at}
-use Rattle.rules.specs.Outs.{Out, size, node, Made, bare, var_out, binary, ite_out, sum_out, lone_out, numeral, are_digits, decimal, var_name, vars, arity}
+use Rattle.rules.specs.Outs.{Out, size, Made, var_out, binary, ite_out, sum_out, lone_out, numeral, are_digits, decimal, var_name, vars, arity}
 use Rattle.rules.specs.Rules.{Waiting, called, fold_error, end_of_fold, out_of_fold, term, args, waiting, pattern, string, entry}
 use Rattle.rules.specs.Slices.{Table}
 use Rattle.walks.specs.Moves.{Move}

@@ -1,10 +1,10 @@
 -- What an answer 0 of `compile` says of the tree bytes and of the room. Assumes nothing.
-use Rattle.std.specs.Prelude.{ℕ, ◌≤◌, ◌≡◌, refl, Bool, true, false, List, [], ◌∷◌, ◌++◌, length, take, drop, leb, ltb}
+use Rattle.std.specs.Prelude.{ℕ, ◌≤◌, ◌≡◌, List, length, take}
 use Rattle.fields.specs.declared.Answer.{Answer}
-use Rattle.fields.specs.Outcome.{Outcome, listing, refusal, pick, answer, content, Answers}
+use Rattle.fields.specs.Outcome.{Outcome, listing}
 use Rattle.tree.specs.Tree.{Tree}
-use Rattle.tree.specs.Verdict.{Says, Encodes}
-use Rattle.rules.specs.Listing.{compiling, listed}
+use Rattle.tree.specs.Verdict.{Encodes}
+use Rattle.rules.specs.Listing.{compiling}
 
 -- a listing with the number 0, at the front of the room
 pub record Given (o : Outcome) (d' : List ℕ) (r : Answer) : Type 0 where

@@ -1,8 +1,7 @@
 -- The words of the third demand's theorems (proofs/Promises.antt) that are no walk's: whether a walk can make its moves, and the walk in a listing's bytes.
-use Rattle.std.specs.Prelude.{ℕ, zero, suc, ◌≤◌, ◌≡◌, refl, Bool, true, false, List, [], length, take}
+use Rattle.std.specs.Prelude.{ℕ, Bool, true, false, List}
 use Rattle.std.proofs.Math.Option.{Option, none, some}
 use Rattle.walks.specs.Moves.{Move}
-use Rattle.walks.specs.TreeWalk as ByName
 use Rattle.walks.specs.TableWalk as ByNumber
 use Rattle.walks.specs.Reader.{read_listing}
 

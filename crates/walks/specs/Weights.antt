@@ -1,5 +1,5 @@
 -- How many bytes the fields of a tree have. Assumes nothing.
-use Rattle.std.specs.Prelude.{ℕ, ◌+◌, ◌*◌, ◌≤◌, ◌≡◌, refl, Bool, true, false, cond, List, [], ◌∷◌, length, ltb}
+use Rattle.std.specs.Prelude.{ℕ, ◌+◌, length}
 use Rattle.tree.specs.Rose.{Rose, Roses, leaf, node, rnil, rcons}
 
 -- "One-byte tag, two-byte length": the bytes of a field, of a row of fields
