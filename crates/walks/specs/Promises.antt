@@ -1,4 +1,4 @@
--- The words of the third demand's theorems (proofs/Promises.antt) that are no walk's: whether a walk can make its moves, and the walk in a listing's bytes.
+-- What the promises (proofs/Promises.antt) speak of besides the walks: whether a walk can make its moves, and the walk in a listing's bytes. Assumes nothing.
 use Rattle.std.specs.Prelude.{ℕ, Bool, true, false, List}
 use Rattle.std.proofs.Math.Option.{Option, none, some}
 use Rattle.walks.specs.Moves.{Move}
