@@ -1,12 +1,10 @@
 -- What a call of `compile` comes to, and what is left of the room. Document 01: "The lowest applicable of 2 to 6 and 8 is given; then 7, tested against the
 -- listing due; then 0 or 1." Assumes nothing.
 use Rattle.std.specs.Prelude.{ℕ, ◌≤◌, ◌≡◌, List}
-use Rattle.std.proofs.Common.{ap}
 use Rattle.fields.specs.declared.Answer.{Answer}
 use Rattle.fields.specs.Outcome.{Outcome, refusal, Answers}
 use Rattle.tree.specs.Tree.{Tree}
 use Rattle.tree.specs.Verdict.{Says, Encodes}
-use Rattle.tree.specs.Promises.{one-tree, one-verdict}
 use Rattle.rules.specs.Listing.{compiling}
 
 -- bytes that are no tree, or too large a one, are refused with the verdict's number; a tree comes to what the rules compile it to
@@ -22,10 +20,3 @@ pub record Compiles (b d d' : List ℕ) (r : Answer) : Type 0 where
   -- a listing is short enough, and a place near enough, for the packed answer
   pub few : r.length ≤ 4194304
   pub near : r.place ≡ 0
-
--- bytes come to one thing only
-pub one-outcome : (b : List ℕ) (o o' : Outcome) → Comes b o → Comes b o' → o ≡ o'
-one-outcome b o o' (refused v s n) (refused w u m) = ap (λ (k : ℕ). refusal k 0) (one-verdict b v w s u)
-one-outcome b o o' (refused v s n) (compiled t u h) = absurd (n (one-verdict b v 0 s u))
-one-outcome b o o' (compiled t s h) (refused w u m) = absurd (m (one-verdict b w 0 u s))
-one-outcome b o o' (compiled t s h) (compiled u v k) = ap compiling (one-tree b t u h k)

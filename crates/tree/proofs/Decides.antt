@@ -1,7 +1,7 @@
 -- What a test that decides has said. Assumes nothing.
 use mathlib.Core.Path.{◌≡◌, refl}
 use mathlib.Core.Bool.{Bool, true, false}
-use Rattle.tree.specs.Match.{not-both}
+use Rattle.tree.proofs.Match.{not-both}
 use Rattle.tree.specs.Wf.{Decided}
 
 pub said : (r : Bool) (P : Type 0) → Decided r P → r ≡ true → P

@@ -16,10 +16,12 @@ use Rattle.tree.specs.Form.{At}
 use Rattle.tree.specs.Scan.{All, over, here, next_of}
 use Rattle.tree.specs.Nest.{counts, mark, pop, pushed, Shallow, stack_of}
 use Rattle.tree.specs.Nest as nest
-use Rattle.tree.specs.Match.{not-both}
-use Rattle.tree.specs.Wf.{Wf, tree_of, wf_of}
+use Rattle.tree.proofs.Match.{not-both}
+use Rattle.tree.specs.Wf.{Wf}
+use Rattle.tree.proofs.Wf.{tree_of, wf_of}
 use Rattle.tree.specs.Numbers.{numbered}
-use Rattle.tree.specs.Verdict.{Encodes, Says, fine, wrong, deep, nested, nesting, defining, limits, walk_of, of-walk}
+use Rattle.tree.specs.Verdict.{Encodes, Says, fine, wrong, deep, nested, nesting, defining, limits}
+use Rattle.tree.proofs.Verdicts.{walk_of, of-walk}
 
 stack-pred : (a : List ℕ) (i : ℕ) → 0 < i → stack_of a i ≡ get_or a (i - 1) 0 ∷ stack_of a (i - 1)
 unfolding stack_of

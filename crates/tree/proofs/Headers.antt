@@ -12,7 +12,7 @@ use Rattle.tree.specs.Leaf.{class, shape, is_leaf_tag, leaf_ok}
 use Rattle.tree.specs.Grammar.{Items, row_at, after, ends}
 use Rattle.tree.specs.Rose.{end_of, text_of}
 use Rattle.tree.specs.Scan.{Local, done, step, All, over, here, Inner, next_of}
-use Rattle.tree.specs.Match.{not-both}
+use Rattle.tree.proofs.Match.{not-both}
 use Rattle.tree.specs.Wf.{Wf, Decided}
 use Rattle.tree.specs.Formed.{Stepped}
 use Rattle.tree.proofs.Leaves.{part}

@@ -13,7 +13,7 @@ use borrow.Author.Tests.{eq-eqb, ne_eqb, eqb-true, eqb-false}
 use Rattle.tree.specs.Every.{at}
 use Rattle.tree.specs.Table.{items}
 use Rattle.tree.specs.Leaf.{both}
-use Rattle.tree.specs.Match.{not-both}
+use Rattle.tree.proofs.Match.{not-both}
 use Rattle.tree.specs.Grammar.{Items, dead, end, one, opt, many, mix, term, decode, row_at, after, ends}
 
 -- an item of class k and mode m, before g

@@ -11,11 +11,13 @@ use borrow.Author.Tests.{leb-true, leb-false, lt-ltb, le-ltb}
 use Rattle.tree.specs.Leaf.{shape, is_leaf_tag}
 use Rattle.tree.specs.Rose.{end_of}
 use Rattle.tree.specs.Scan.{Inner, next_of}
-use Rattle.tree.specs.Match.{not-both}
+use Rattle.tree.proofs.Match.{not-both}
 use Rattle.tree.specs.Nest.{counts, mark, Shallow}
-use Rattle.tree.specs.Wf.{Wf, tree_of}
-use Rattle.tree.specs.Verdict.{walk_of}
-use Rattle.tree.specs.Count.{Passed, over, bytes, members, leaf-none, few-fields, few-definitions}
+use Rattle.tree.specs.Wf.{Wf}
+use Rattle.tree.proofs.Wf.{tree_of}
+use Rattle.tree.proofs.Verdicts.{walk_of}
+use Rattle.tree.specs.Count.{Passed, over, bytes, members}
+use Rattle.tree.proofs.Count.{leaf-none, few-fields, few-definitions}
 use Rattle.tree.specs.Formed.{Formed}
 use Rattle.tree.proofs.Headers.{Going, going_on, right}
 

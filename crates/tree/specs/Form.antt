@@ -1,8 +1,8 @@
 -- The fields of a tree, TREE.md's table read from the tree's side: a clause for each constructor. Each function for members takes the rest of the row, so
 -- that a list or an optional member stands at the end of a row and before more members alike. Assumes nothing.
-use Rattle.std.specs.Prelude.{ℕ, ◌≡◌, refl, List, [], ◌∷◌, length}
-use Rattle.tree.specs.Rose.{Rose, Roses, leaf, node, rnil, rcons, place_of, Row}
-use Rattle.tree.specs.Tree.{Name, Number, Mark, Format, Term, OptTerm, Terms, Branches, Defs, Def, Pattern, OptPattern, Patterns, PatEntries, Parts, Part, Bound, StrParts, StrPart, Entries, Native, Globals, Import, Uses, Module, Main, Tree, term_place, pattern_place}
+use Rattle.std.specs.Prelude.{ℕ, List, [], ◌∷◌, length}
+use Rattle.tree.specs.Rose.{Rose, Roses, leaf, node, rnil, rcons, Row}
+use Rattle.tree.specs.Tree.{Name, Number, Mark, Format, Term, OptTerm, Terms, Branches, Defs, Def, Pattern, OptPattern, Patterns, PatEntries, Parts, Part, Bound, StrParts, StrPart, Entries, Native, Globals, Import, Uses, Module, Main, Tree}
 use Rattle.tree.specs.Tree.{t_id, t_recurse, t_arr, t_neg, t_label, t_break, t_if_then_else, t_var, t_call, t_def, t_num, t_try_catch, t_fold, t_pipe, t_bin_op, t_path, t_str, t_obj}
 use Rattle.tree.specs.Tree.{no_mark, a_mark, no_format, a_format, no_term, a_term, ts_nil, ts_cons, b_none, b_else, b_pair, ds_nil, ds_cons, def, p_var, p_arr, p_obj, no_pattern, a_pattern, ps_nil, ps_cons, pes_nil, pes_cons}
 use Rattle.tree.specs.Tree.{parts_nil, parts_cons, part_index, part_range, without_bound, a_bound, s_nil, s_cons, s_text, s_char, s_term, es_nil, es_cons, no_globals, a_globals}
@@ -156,32 +156,3 @@ f_tree t =
 -- the fields of the tree stand in the bytes at their places, and fill them: "A tree is one field"
 unfoldable pub At : List ℕ → Tree → Type 0
 At b t = Row b (rcons (f_tree t) rnil) 0 (length b)
-
--- ---- the place of a term or pattern is its field's
-
-pub term-place : (t : Term) → place_of (f_term t) ≡ term_place t
-unfolding f_term
-term-place (t_id p) = refl
-term-place (t_recurse p) = refl
-term-place (t_arr p o) = refl
-term-place (t_neg p t) = refl
-term-place (t_label p x t) = refl
-term-place (t_break p x) = refl
-term-place (t_if_then_else p q c t bs) = refl
-term-place (t_var p x) = refl
-term-place (t_call p f ts) = refl
-term-place (t_def p ds t) = refl
-term-place (t_num p x) = refl
-term-place (t_try_catch p t o) = refl
-term-place (t_fold p f t x ts) = refl
-term-place (t_pipe p t q x u) = refl
-term-place (t_bin_op p t q x u) = refl
-term-place (t_path p t ps) = refl
-term-place (t_str p f ps) = refl
-term-place (t_obj p es) = refl
-
-pub pattern-place : (x : Pattern) → place_of (f_pattern x) ≡ pattern_place x
-unfolding f_term
-pattern-place (p_var p x) = refl
-pattern-place (p_arr p xs) = refl
-pattern-place (p_obj p es) = refl

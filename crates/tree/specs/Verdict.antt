@@ -1,15 +1,11 @@
 -- What the check of tree bytes says, and that it can say one thing only. Document 01: "2: input over 32,768 bytes; 3: .. tree .. not well formed; 4: nesting
 -- .. over 512 in a tree; 5: definitions nested over 64, compiled or not .. The lowest applicable of 2 to 6 and 8 is given .. tree nesting, fields open at
 -- once". 0 is that none of these applies. Assumes nothing.
-use Rattle.std.specs.Prelude.{ℕ, ◌≤◌, ◌<◌, ◌≡◌, refl, List, [], true, cond, leb, length}
-use Rattle.std.proofs.Math.Nat.{max-zero}
-use Rattle.std.proofs.Common.{arith}
-use Rattle.tree.specs.Rose.{rnil, rcons}
+use Rattle.std.specs.Prelude.{ℕ, ◌≤◌, ◌<◌, ◌≡◌, List, true, cond, leb, length}
 use Rattle.tree.specs.Tree.{Tree}
 use Rattle.tree.specs.Form.{At, f_tree}
 use Rattle.tree.specs.Numbers.{numbered}
-use Rattle.tree.specs.Obeyed.{obeys-tree}
-use Rattle.tree.specs.Nest.{nest, nests, Shallow, shallow-of, of-shallow}
+use Rattle.tree.specs.Nest.{nest}
 
 -- the bytes are those of the tree, which is well formed
 pub record Encodes (b : List ℕ) (t : Tree) : Type 0 where
@@ -34,59 +30,3 @@ pub data Says (b : List ℕ) : ℕ → Type 0 where
 -- what a tree that is well formed comes to
 unfoldable pub limits : Tree → ℕ
 limits t = cond (leb (nesting t) 512) (cond (leb (defining t) 64) 0 5) 4
-
--- ---- by the walk
-
-nests-one : (o : ℕ) (t : Tree) → nests o (rcons (f_tree t) rnil) ≡ nest o (f_tree t)
-unfolding nest
-nests-one o t = max-zero (nest o (f_tree t))
-
-pub walk_of : (b : List ℕ) (o n : ℕ) (t : Tree) → At b t → nest o (f_tree t) ≤ n → Shallow b o n [] 0
-unfolding At
-walk_of b o n t h m = let q = nests-one o t in shallow-of b o n (rcons (f_tree t) rnil) h (obeys-tree t).1 (omega arith)
-
-pub of-walk : (b : List ℕ) (o n : ℕ) (t : Tree) → At b t → Shallow b o n [] 0 → nest o (f_tree t) ≤ n
-unfolding At
-of-walk b o n t h s = let q = nests-one o t in omega (arith, of-shallow b o n (rcons (f_tree t) rnil) h (obeys-tree t).1 s)
-
--- two trees of the same bytes nest alike
-alike : (b : List ℕ) (o n : ℕ) (t u : Tree) → At b t → At b u → nest o (f_tree t) ≤ n → nest o (f_tree u) ≤ n
-alike b o n t u h k m = of-walk b o n u k (walk_of b o n t h m)
-
-pub says-one : (b : List ℕ) (r s : ℕ) → Says b r → Says b s → r ≡ s
-says-one b r s (fine l t h m n) (fine l' u k m' n') = refl
-says-one b r s (fine l t h m n) (long l') = absurd (omega arith)
-says-one b r s (fine l t h m n) (wrong l' f) = absurd (f t h)
-says-one b r s (fine l t h m n) (deep l' u k m') = absurd (omega (arith, alike b 0 512 t u h.at k.at m))
-says-one b r s (fine l t h m n) (nested l' u k m' n') = absurd (omega (arith, alike b 0x8C 64 t u h.at k.at n))
-says-one b r s (long l) (fine l' u k m' n') = absurd (omega arith)
-says-one b r s (long l) (long l') = refl
-says-one b r s (long l) (wrong l' f) = absurd (omega arith)
-says-one b r s (long l) (deep l' u k m') = absurd (omega arith)
-says-one b r s (long l) (nested l' u k m' n') = absurd (omega arith)
-says-one b r s (wrong l f) (fine l' u k m' n') = absurd (f u k)
-says-one b r s (wrong l f) (long l') = absurd (omega arith)
-says-one b r s (wrong l f) (wrong l' g) = refl
-says-one b r s (wrong l f) (deep l' u k m') = absurd (f u k)
-says-one b r s (wrong l f) (nested l' u k m' n') = absurd (f u k)
-says-one b r s (deep l t h m) (fine l' u k m' n') = absurd (omega (arith, alike b 0 512 u t k.at h.at m'))
-says-one b r s (deep l t h m) (long l') = absurd (omega arith)
-says-one b r s (deep l t h m) (wrong l' f) = absurd (f t h)
-says-one b r s (deep l t h m) (deep l' u k m') = refl
-says-one b r s (deep l t h m) (nested l' u k m' n') = absurd (omega (arith, alike b 0 512 u t k.at h.at m'))
-says-one b r s (nested l t h m n) (fine l' u k m' n') = absurd (omega (arith, alike b 0x8C 64 u t k.at h.at n'))
-says-one b r s (nested l t h m n) (long l') = absurd (omega arith)
-says-one b r s (nested l t h m n) (wrong l' f) = absurd (f t h)
-says-one b r s (nested l t h m n) (deep l' u k m') = absurd (omega (arith, alike b 0 512 t u h.at k.at m))
-says-one b r s (nested l t h m n) (nested l' u k m' n') = refl
-
--- what an acceptance says
-accepted : (b : List ℕ) (r : ℕ) → Says b r → r ≡ 0 → (length b ≤ 32768) × ((t : Tree) × Encodes b t × (nesting t ≤ 512) × (defining t ≤ 64))
-accepted b r (fine l t h m n) e = (l, (t, h, m, n))
-accepted b r (long l) e = absurd (omega arith)
-accepted b r (wrong l f) e = absurd (omega arith)
-accepted b r (deep l t h m) e = absurd (omega arith)
-accepted b r (nested l t h m n) e = absurd (omega arith)
-
-pub says-zero : (b : List ℕ) → Says b 0 → (length b ≤ 32768) × ((t : Tree) × Encodes b t × (nesting t ≤ 512) × (defining t ≤ 64))
-says-zero b s = accepted b 0 s refl

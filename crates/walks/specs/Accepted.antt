@@ -1,42 +1,12 @@
--- An outcome that is a listing of terms: what is known of its tree. Assumes nothing.
-use Rattle.std.specs.Prelude.{ℕ, ◌≤◌, ◌≡◌, refl, Bool, true, false, List, [], ◌∷◌, length, ltb}
-use Rattle.std.proofs.Common.{arith, sym, ap, ◌∙◌, ltb-false}
-use Rattle.fields.specs.Outcome.{Outcome, listing, refusal, pick}
+-- What is known of the tree of a listing of terms. Assumes nothing.
+use Rattle.std.specs.Prelude.{ℕ, ◌≤◌, ◌≡◌, List, []}
 use Rattle.tree.specs.Tree.{Tree}
-use Rattle.tree.specs.Form.{At, f_tree}
-use Rattle.tree.specs.Encoded.{Bytes, encode, encoded}
-use Rattle.rules.specs.Table.{Err}
 use Rattle.rules.specs.Modules.{compile}
-use Rattle.rules.specs.Count.{inserted, table-count}
-use Rattle.rules.specs.Listing.{term_listing, listed, compiling}
-use Rattle.walks.specs.Weights.{weigh, weigh-bytes}
-
--- the bytes of a tree are as many as its fields have
-pub tree-length : (b : List ℕ) (t : Tree) → Bytes b → At b t → weigh (f_tree t) ≡ length b
-unfolding encode
-tree-length b t s h = weigh-bytes (f_tree t) ∙ ap length (sym (encoded b s t h))
+use Rattle.rules.specs.Count.{inserted}
+use Rattle.rules.specs.Listing.{term_listing}
 
 -- the tree is not refused, has no error, and these are the bytes of its table
 pub record Accepted (t : Tree) (bytes : List ℕ) : Type 0 where
   pub few : inserted t ≤ 4096
   pub fine : (compile t).errs ≡ []
   pub same : bytes ≡ term_listing 2 (compile t).main (compile t).table
-
-abbrev bytes_in : Outcome → List ℕ
-bytes_in (listing n bytes) = bytes
-bytes_in (refusal n p) = []
-
-abbrev number_in : Outcome → ℕ
-number_in (listing n bytes) = n
-number_in (refusal n p) = n
-
-pub accepted : (t : Tree) (bytes : List ℕ) → compiling t ≡ listing 0 bytes → Accepted t bytes
-unfolding compiling listed
-accepted t bytes q = go (ltb 4096 (length (compile t).table)) refl (compile t).errs refl q
-  where
-    go : (b : Bool) → ltb 4096 (length (compile t).table) ≡ b → (es : List Err) → (compile t).errs ≡ es → pick b (refusal 6 0) (listed (compile t) es) ≡ listing 0 bytes
-        → Accepted t bytes
-    go true w es f h = absurd (omega (arith, ap number_in h))
-    go false w [] f h =
-        record { few = omega (arith, table-count t, ltb-false 4096 (length (compile t).table) w); fine = f; same = sym (ap bytes_in h) }
-    go false w (x ∷ xs) f h = absurd (omega (arith, ap number_in h))

@@ -1,6 +1,6 @@
 -- `tree::below`: the numbers from the loop's place on are below m exactly if all are. Assumes nothing.
 use native.Mathlib.Omega.{arith}
-use Prim.Native.Nat.{◌+◌, ◌-◌}
+use Prim.Native.Nat.{◌+◌}
 use mathlib.Core.Path.{refl}
 use Rattle.tree.proofs.Using.{counting-start, counting-next, counting-wrong, counting-end, room_at, rest_at}
 use borrow.Author.Rules.{rules}

@@ -1,6 +1,5 @@
 -- `tree::each_header`: the headers from the loop's place on are right exactly if all are, and the counts are those of the headers passed. Assumes nothing.
 use native.Mathlib.Omega.{arith}
-use Prim.Native.Nat.{◌-◌}
 use Rattle.tree.proofs.Headers.{going_start, wrong-fits, wrong-content}
 use Rattle.tree.proofs.Seen.{seen_start, seen-less, seen_step, seen_end, not-formed}
 use borrow.Author.Rules.{rules}

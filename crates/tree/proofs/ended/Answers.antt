@@ -2,7 +2,6 @@
 use Rattle.tree.proofs.Deep.{pop-stop, pop-more, pop-none}
 use mathlib.Core.Path.{◌∙◌, refl}
 use native.Mathlib.Omega.{arith}
-use Prim.Native.Nat.{◌-◌}
 use borrow.Author.Rules.{rules}
 use Rattle.tree.proofs.ended.Goals as goal
 

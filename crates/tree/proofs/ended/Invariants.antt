@@ -1,5 +1,5 @@
 use mathlib.Core.Path.{◌≡◌}
-use Prim.Native.Nat.{◌-◌, ◌≤◌}
+use Prim.Native.Nat.{◌≤◌}
 use lib.ListN.{length}
 use Rattle.tree.specs.Nest.{stack_of, pop}
 use Rattle.tree.proofs.ended.Given as goal

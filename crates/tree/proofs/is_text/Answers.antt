@@ -1,7 +1,6 @@
 -- `tree::is_text`: what is left is UTF-8 exactly if the whole is, while only ASCII was passed. Assumes nothing.
 use native.Mathlib.Omega.{arith}
 use mathlib.Core.Path.{◌∙◌, refl}
-use Prim.Native.Nat.{◌-◌}
 use Rattle.tree.proofs.Leaves.{text-next, text-done}
 use borrow.Author.Rules.{rules}
 use Rattle.tree.proofs.is_text.Goals as goal

@@ -1,6 +1,6 @@
 -- `tree::judged`: well formed, then module numbers, then nesting. Assumes nothing.
 use mathlib.Core.Path.{◌∙◌, sym}
-use Rattle.tree.specs.Wf.{tree_of}
+use Rattle.tree.proofs.Wf.{tree_of}
 use Rattle.tree.proofs.Deep.{says-wrong, says-unnumbered, says-tree}
 use Rattle.tree.proofs.Decides.{said, denied}
 use borrow.Author.Rules.{rules}

@@ -1,6 +1,5 @@
 -- `tree::numbered`: the modules from the loop's place on and main are right exactly if all are. Assumes nothing.
 use native.Mathlib.Omega.{arith}
-use Prim.Native.Nat.{◌-◌}
 use mathlib.Core.Path.{◌∙◌, sym}
 use Rattle.tree.proofs.Using.{left-start, left-next, left-wrong, left_end, next_of}
 use borrow.Author.Rules.{rules}

@@ -1,6 +1,5 @@
 -- `tree::row`: the headers from the loop's place on are right exactly if the whole row is. Assumes nothing.
 use native.Mathlib.Omega.{arith}
-use Prim.Native.Nat.{◌-◌}
 use Rattle.tree.proofs.Headers.{along-start, along-next, along-end, row_fits}
 use borrow.Author.Rules.{rules}
 use Rattle.tree.proofs.row.Goals as goal

@@ -2,8 +2,6 @@
 use Rattle.tree.proofs.Deep.{walk_start, walk-deep, walk-next, walk_end, all-fits, next-lt}
 use mathlib.Core.Path.{◌∙◌}
 use native.Mathlib.Omega.{arith}
-use Prim.Native.Nat.{◌-◌}
-use Rattle.tree.specs.Nest.{mark}
 use borrow.Author.Rules.{rules}
 use Rattle.tree.proofs.shallow.Goals as goal
 

@@ -1,7 +1,6 @@
 -- `tree::skip`: what follows the member is the same from each item that was passed over. Assumes nothing.
 use native.Mathlib.Omega.{arith}
 use mathlib.Core.Path.{◌∙◌, sym, refl}
-use Prim.Native.Nat.{◌-◌}
 use Rattle.tree.proofs.Rows.{at-taken, at-stop, at-mixed, at-pass, at_last}
 use borrow.Author.Rules.{rules}
 use Rattle.tree.proofs.skip.Goals as goal

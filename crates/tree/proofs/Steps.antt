@@ -10,9 +10,9 @@ use Rattle.tree.specs.Tree.{Term, t_id, t_recurse, t_arr, t_neg, t_label, t_brea
 use Rattle.tree.specs.Tree.{def, p_var, p_arr, p_obj, part_index, part_range, s_text, s_char}
 use Rattle.tree.specs.Form.{f_name, f_number, f_names, f_numbers, f_mark, f_format, f_term, f_opt_term, f_terms, f_defs, f_pattern, f_opt_pattern, f_patterns, f_pat_entries, f_parts, f_bound, f_str_parts, f_entries}
 use Rattle.tree.specs.Form.{f_native, f_natives, f_globals, f_import, f_imports, f_uses, f_module, f_modules, f_main, f_tree}
-use Rattle.tree.specs.Match.{Match, Step}
-use Rattle.tree.specs.Meaning.{Meaning, Op, op_pipe, op_byte, g_op, g_natives, g_imports, g_includes, g_vars, g_defs, g_pair, member, branches}
-use Rattle.tree.specs.Meaning.{term?, pattern?, mark?, format?, from?, upto?, globals?, terms, definitions, patterns, pat_entries, entries, parts, names, params, numbers, imports, natives, modules, str_parts}
+use Rattle.tree.proofs.Match.{Match, Step}
+use Rattle.tree.proofs.Meaning.{Meaning, Op, op_pipe, op_byte, g_op, g_natives, g_imports, g_includes, g_vars, g_defs, g_pair, member, branches}
+use Rattle.tree.proofs.Meaning.{term?, pattern?, mark?, format?, from?, upto?, globals?, terms, definitions, patterns, pat_entries, entries, parts, names, params, numbers, imports, natives, modules, str_parts}
 
 -- a BinOp, of either kind of operator
 binary : (p : ℕ) (t : Term) (o : Op) (u : Term) → (v : Term) × (f_term v ≡ node 0xAD p (rcons (f_term t) (rcons (g_op o) (rcons (f_term u) rnil))))

@@ -23,11 +23,11 @@ use Rattle.walks.specs.TreeWalk as ByName
 use Rattle.walks.specs.TreeWalk.{View, Spot, Leaf, stand, part_at, parts_at, entries_at, format_at, lone_members, entry_members, spot_members}
 use Rattle.walks.specs.TableWalk.{Cells, here}
 use Rattle.walks.specs.Together.{nodes_of}
-use Rattle.walks.specs.Holds.{nil-left, nil-right, node_at, Holds, Peeled, peel, only}
-use Rattle.walks.specs.Agree.{Agree}
-use Rattle.walks.specs.Match.{HeldShown, HeldParts, HeldSingle, HeldEntries, HeldReading, entry_out, Match, stands, at_part, at-parts, at-entries, at-format}
-use Rattle.walks.specs.Each.{as_member}
-use Rattle.walks.specs.Members.{Has}
+use Rattle.walks.proofs.Holds.{nil-left, nil-right, node_at, Holds, Peeled, peel, only}
+use Rattle.walks.proofs.Agree.{Agree}
+use Rattle.walks.proofs.Match.{HeldShown, HeldParts, HeldSingle, HeldEntries, HeldReading, entry_out, Match, stands, at_part, at-parts, at-entries, at-format}
+use Rattle.walks.proofs.Each.{as_member}
+use Rattle.walks.proofs.Members.{Has}
 
 -- a sum stands in the table: so do its sides
 module _ (T : Table) (m : ℕ) (a o : Out) where

@@ -18,10 +18,10 @@ use Rattle.walks.specs.TreeWalk.{View, Leaf, Seen, arguments, operands}
 use Rattle.walks.specs.TableWalk as ByNumber
 use Rattle.walks.specs.TableWalk.{Cells, here, at_each}
 use Rattle.walks.specs.Together.{nodes_of, entries_of}
-use Rattle.walks.specs.Holds.{has-error, node_at, Holds}
-use Rattle.walks.specs.Agree.{Agree, Same, s_nothing, s_argument, s_local, s_module, s_native}
-use Rattle.walks.specs.Match.{leaf_node, Match}
-use Rattle.walks.specs.Each.{numbers-bound, args-arity, Each, as_member, each-ranked, both-args}
+use Rattle.walks.proofs.Holds.{has-error, node_at, Holds}
+use Rattle.walks.proofs.Agree.{Agree, Same, s_nothing, s_argument, s_local, s_module, s_native}
+use Rattle.walks.proofs.Match.{leaf_node, Match}
+use Rattle.walks.proofs.Each.{numbers-bound, args-arity, Each, as_member, each-ranked, both-args}
 
 module _ (whole : Tree) (T : Table) (D : List (List Filter)) where
   -- the members that the table walk has

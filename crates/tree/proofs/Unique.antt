@@ -5,9 +5,9 @@ use Rattle.tree.specs.Rose.{Rose, Roses, leaf, node, rnil, rcons, end_of, place_
 use Rattle.tree.specs.Rose as rose
 use Rattle.tree.specs.Leaf.{is_leaf_tag}
 use Rattle.tree.specs.Grammar.{Obeys, Obey}
-use Rattle.tree.specs.Match.{not-both}
-use Rattle.tree.specs.Obeyed.{obeys-tree}
-use Rattle.tree.specs.Back.{same-tree}
+use Rattle.tree.proofs.Match.{not-both}
+use Rattle.tree.proofs.Obeyed.{obeys-tree}
+use Rattle.tree.proofs.Back.{same-tree}
 use Rattle.tree.specs.Tree.{Tree}
 use Rattle.tree.specs.Form.{At, f_tree}
 

@@ -17,7 +17,7 @@ use Rattle.walks.specs.TreeWalk as ByName
 use Rattle.walks.specs.TreeWalk.{View, Entry, Home, Seen, seen_else, define, look, look_in, of_module, of_natives, of_import, seen_parted, seen}
 use Rattle.walks.specs.TableWalk.{Cells, skip}
 use Rattle.walks.specs.Together.{entries_of}
-use Rattle.walks.specs.Agree.{Past, ending, Agree, agree-home, skip_all, Same, s_nothing, s_argument, s_local, s_module, s_native, same_cond, arity-of, agree-find}
+use Rattle.walks.proofs.Agree.{Past, ending, Agree, agree-home, skip_all, Same, s_nothing, s_argument, s_local, s_module, s_native, same_cond, arity-of, agree-find}
 
 -- the definitions of a module as rows
 abbrev pub rows_of : List Filter → Env

@@ -16,10 +16,13 @@ use Rattle.rules.specs.Filters.{Top}
 use Rattle.rules.specs.Rules.{term}
 use Rattle.rules.specs.Modules.{compile}
 use Rattle.rules.specs.Listing.{term_listing, error_listing, listed, compiling}
-use Rattle.rules.specs.Returns.{returns, lone-call, one-member, module_defs, of-module-defs}
+use Rattle.rules.specs.Returns.{module_defs}
+use Rattle.rules.proofs.Returns.{returns, lone-call, one-member, of-module-defs}
 use Rattle.rules.specs.Numbers.{In, Called, Fine}
-use Rattle.rules.specs.Fine.{Of, table-fine}
-use Rattle.rules.specs.Count.{inserted, table-count}
+use Rattle.rules.specs.Fine.{Of}
+use Rattle.rules.proofs.Fine.{table-fine}
+use Rattle.rules.specs.Count.{inserted}
+use Rattle.rules.proofs.Count.{table-count}
 
 -- "a body may return calls of itself and of what its place allows": a term that returns a call of an enclosing definition stands in a place that allows it
 pub returned-is-allowed : (c : Top) (t : Term) (e : Env) (n : ℕ) (r : Tail) → subset (term c t e n r).tail r ≡ true

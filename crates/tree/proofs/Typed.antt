@@ -9,9 +9,9 @@ use Rattle.tree.specs.Rose.{Rose, Roses, leaf, node, rnil, rcons}
 use Rattle.tree.specs.Grammar.{end, decode, row_at, fit, Obey}
 use Rattle.tree.specs.Tree.{Tree}
 use Rattle.tree.specs.Form.{f_tree}
-use Rattle.tree.specs.Match.{Match, Step, match, mean, not-both}
-use Rattle.tree.specs.Meaning.{Meaning, member}
-use Rattle.tree.specs.Steps.{known, Steps, all-steps}
+use Rattle.tree.proofs.Match.{Match, Step, match, mean, not-both}
+use Rattle.tree.proofs.Meaning.{Meaning, member}
+use Rattle.tree.proofs.Steps.{known, Steps, all-steps}
 
 abbrev mem : ℕ → List ℕ → Bool
 mem k [] = false

@@ -21,11 +21,11 @@ use Rattle.walks.specs.TreeWalk.{View, stand, keys, term_members}
 use Rattle.walks.specs.TableWalk as ByNumber
 use Rattle.walks.specs.TableWalk.{Cells, here, at_each, pat_vars, pat_keys}
 use Rattle.walks.specs.Together.{nodes_of, PlaceAt}
-use Rattle.walks.specs.Holds.{nil-left, nil-right, has-error, node_at, Holds, Peeled, peel, only, place_at}
-use Rattle.walks.specs.Agree.{Agree}
-use Rattle.walks.specs.Match.{Match, stands}
-use Rattle.walks.specs.Each.{pattern-vars, Both, both-keys, agree-push, Each, as_member, each_append, each-ranked}
-use Rattle.walks.specs.Members.{Has}
+use Rattle.walks.proofs.Holds.{nil-left, nil-right, has-error, node_at, Holds, Peeled, peel, only, place_at}
+use Rattle.walks.proofs.Agree.{Agree}
+use Rattle.walks.proofs.Match.{Match, stands}
+use Rattle.walks.proofs.Each.{pattern-vars, Both, both-keys, agree-push, Each, as_member, each_append, each-ranked}
+use Rattle.walks.proofs.Members.{Has}
 
 -- The records of a Fold from m on, as the rules number them
 module _ (c : Top) (e : Env) (p m : ℕ) (t : Term) (x : Pattern) (i u : Term) where

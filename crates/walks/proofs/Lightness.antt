@@ -25,9 +25,10 @@ use Rattle.rules.specs.Rules as Rules
 use Rattle.rules.specs.Rules.{Waiting, Scope, called, empty_out, format_out, fold_error, end_of_fold, out_of_fold, term, or_empty, args, waiting, branches, defs, body, pattern, elements, keyed, opt_pattern, parts, part, bound, strings, string, entry}
 use Rattle.rules.specs.Lists.{Every, every_append}
 use Rattle.rules.specs.Listing.{pat_bytes, opt_pat_bytes, step_bytes, steps_bytes}
-use Rattle.walks.specs.Weights.{weigh, weighs, weigh-three, names-weigh, defs-weigh, format-weigh, bound-weigh, utf8-length}
-use Rattle.walks.specs.Light.{Below, label-below, outer_count, variable-below, FoundBelow, meant-below, push-count, params-count, pattern-bytes, vars-weigh, opt-vars-weigh, opt-pattern-bytes, parts-bytes, arity-weigh}
-use Rattle.walks.specs.Each.{args-arity}
+use Rattle.walks.specs.Weights.{weigh, weighs}
+use Rattle.walks.proofs.Weights.{weigh-three, names-weigh, defs-weigh, format-weigh, bound-weigh, utf8-length}
+use Rattle.walks.proofs.Light.{Below, label-below, outer_count, variable-below, FoundBelow, meant-below, push-count, params-count, pattern-bytes, vars-weigh, opt-vars-weigh, opt-pattern-bytes, parts-bytes, arity-weigh}
+use Rattle.walks.proofs.Each.{args-arity}
 
 -- K: the bytes of the tree
 module _ (K : ℕ) where

@@ -20,8 +20,8 @@ use Rattle.walks.specs.TreeWalk as ByName
 use Rattle.walks.specs.TreeWalk.{View, Spot, Leaf, define, stand, part_at, parts_at, entries_at, format_at, empty_at, or_empty, else_at}
 use Rattle.walks.specs.TableWalk as ByNumber
 use Rattle.walks.specs.TableWalk.{Cells, skip, here}
-use Rattle.walks.specs.Holds.{nil-left, nil-right, Holds, Peeled, peel, only}
-use Rattle.walks.specs.Agree.{Agree, ag_filter}
+use Rattle.walks.proofs.Holds.{nil-left, nil-right, Holds, Peeled, peel, only}
+use Rattle.walks.proofs.Agree.{Agree, ag_filter}
 
 -- the walk stands at none of these: it goes on to a Def's body, to a string's parts, to an object's entries
 abbrev pub Plain : Term → Type 0

@@ -16,7 +16,8 @@ use Rattle.rules.specs.Outs.{size, Made, vars, vars_all, vars_keyed, vars_of, ar
 use Rattle.rules.specs.Rules.{term, pattern, elements, keyed, opt_pattern, parts, part, bound}
 use Rattle.rules.specs.Lists.{either}
 use Rattle.rules.specs.Listing.{flag, pat_bytes, pats_bytes, opt_pat_bytes, opt_number, step_bytes, steps_bytes, pat_count}
-use Rattle.walks.specs.Weights.{weigh, weighs, weigh-three}
+use Rattle.walks.specs.Weights.{weigh, weighs}
+use Rattle.walks.proofs.Weights.{weigh-three}
 
 -- ---- indices
 

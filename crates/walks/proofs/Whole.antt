@@ -21,12 +21,12 @@ use Rattle.walks.specs.TreeWalk as ByName
 use Rattle.walks.specs.TreeWalk.{Home, define}
 use Rattle.walks.specs.TableWalk.{here}
 use Rattle.walks.specs.Together.{Together, by_name, by_number}
-use Rattle.walks.specs.Holds.{nil-left, nil-right, Holds}
-use Rattle.walks.specs.Agree.{Past, ending, Agree, ag_end}
-use Rattle.walks.specs.Calls.{rows_of, Stocked, AllStocked}
-use Rattle.walks.specs.Match.{Match, defines, stands}
-use Rattle.walks.specs.Steps.{match-moves, moved-together}
-use Rattle.walks.specs.Each.{Moved}
+use Rattle.walks.proofs.Holds.{nil-left, nil-right, Holds}
+use Rattle.walks.proofs.Agree.{Past, ending, Agree, ag_end}
+use Rattle.walks.proofs.Calls.{rows_of, Stocked, AllStocked}
+use Rattle.walks.proofs.Match.{Match, defines, stands}
+use Rattle.walks.proofs.Steps.{match-moves, moved-together}
+use Rattle.walks.proofs.Each.{Moved}
 
 -- ---- lists of modules
 

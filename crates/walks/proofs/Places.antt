@@ -8,7 +8,7 @@ use mathlib.Core.List.{List, [], ◌∷◌}
 use Rattle.std.proofs.Math.ListN.{length, get_elem?}
 use Rattle.tree.specs.Tree.{Name, Tree, Term, OptTerm, no_term, a_term, StrParts, s_nil, s_cons, StrPart, s_text, s_char, s_term, Entries, es_nil, es_cons, Format, text_place, t_id, t_recurse, t_arr, t_neg, t_label, t_break, t_if_then_else, t_var, t_call, t_def, t_num, t_try_catch, t_fold, t_pipe, t_bin_op, t_path, t_str, t_obj}
 use Rattle.rules.specs.Names.{Text, ascii, same}
-use Rattle.rules.specs.Table.{Rec, Node, n_str, n_obj_empty, Pat, Folding, reduce, foreach, Err, u_var, u_label}
+use Rattle.rules.specs.Table.{Rec, Node, n_str, n_obj_empty, Pat, Folding, Err, u_var, u_label}
 use Rattle.rules.specs.Tails.{Tail, empty}
 use Rattle.rules.specs.Rows.{Filter, Env, count, find_label}
 use Rattle.rules.specs.Filters.{Top, Found, nothing, argument, local, of_module, of_native, variable, meant, error_at}
@@ -21,9 +21,9 @@ use Rattle.walks.specs.TreeWalk.{View, Entry, Spot, body_place}
 use Rattle.walks.specs.TableWalk as ByNumber
 use Rattle.walks.specs.TableWalk.{Cells, Cell}
 use Rattle.walks.specs.Together.{all_imported, all_globals, PlaceAt, Alike, al_end, al_entry, al_filter, SameEntry, s_imported, s_global, s_var, s_value, s_label, s_arg}
-use Rattle.walks.specs.Holds.{Holds, place_at}
-use Rattle.walks.specs.Agree.{Agree, ag_end, ag_var, ag_value, ag_label, ag_arg, ag_filter, ending}
-use Rattle.walks.specs.Match.{Plain, Held, Match, entry_out}
+use Rattle.walks.proofs.Holds.{Holds, place_at}
+use Rattle.walks.proofs.Agree.{Agree, ag_end, ag_var, ag_value, ag_label, ag_arg, ag_filter, ending}
+use Rattle.walks.proofs.Match.{Plain, Held, Match, entry_out}
 
 var-place : (p : ℕ) (x : Err) (i : Option ℕ) → (var_out p x i).self.place ≡ p
 unfolding var_out

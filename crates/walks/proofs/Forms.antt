@@ -22,14 +22,14 @@ use Rattle.walks.specs.TreeWalk.{View, Entry, Spot, stand, or_empty, else_at, ke
 use Rattle.walks.specs.TableWalk as ByNumber
 use Rattle.walks.specs.TableWalk.{Cells, Cell, here, at_each, opt_vars, opt_keys}
 use Rattle.walks.specs.Together.{nodes_of}
-use Rattle.walks.specs.Holds.{node_at, Holds, Peeled, peel, only, place_at}
-use Rattle.walks.specs.Agree.{Agree, ag_label}
-use Rattle.walks.specs.Calls.{AllStocked, agree-meant}
-use Rattle.walks.specs.Match.{Plain, Held, leaf_node, Match, stands, at-or, at-else}
-use Rattle.walks.specs.Each.{opt-vars, as_member, each-ranked, both-opt-keys, agree-push, each-parts}
-use Rattle.walks.specs.Members.{Has, leaf-members, var-members, call-members, operator-members}
-use Rattle.walks.specs.Folds.{fold-members}
-use Rattle.walks.specs.Sums.{shown-members, parts-members, entries-members, single-members, reading-members}
+use Rattle.walks.proofs.Holds.{node_at, Holds, Peeled, peel, only, place_at}
+use Rattle.walks.proofs.Agree.{Agree, ag_label}
+use Rattle.walks.proofs.Calls.{AllStocked, agree-meant}
+use Rattle.walks.proofs.Match.{Plain, Held, leaf_node, Match, stands, at-or, at-else}
+use Rattle.walks.proofs.Each.{opt-vars, as_member, each-ranked, both-opt-keys, agree-push, each-parts}
+use Rattle.walks.proofs.Members.{Has, leaf-members, var-members, call-members, operator-members}
+use Rattle.walks.proofs.Folds.{fold-members}
+use Rattle.walks.proofs.Sums.{shown-members, parts-members, entries-members, single-members, reading-members}
 
 module _ (whole : Tree) (T : Table) (D : List (List Filter)) where
   number-members : (n i : ℕ) (x : Text) (l : Cells) (b : Bool) → get_elem? (nodes_of T) n ≡ some (cond b (n_int i) (n_num x)) → Has whole T D [] n l

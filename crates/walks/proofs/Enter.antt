@@ -19,11 +19,11 @@ use Rattle.walks.specs.TreeWalk.{View, Entry, Seen}
 use Rattle.walks.specs.TableWalk as ByNumber
 use Rattle.walks.specs.TableWalk.{Cells, Cell, skip, here}
 use Rattle.walks.specs.Together.{nodes_of, entries_of, entry_of, SamePick, s_arg, Known}
-use Rattle.walks.specs.Holds.{has-error, node_at, Holds, Peeled, peel}
-use Rattle.walks.specs.Agree.{Agree, ag_value, ag_arg, ag_filter, Same, s_nothing, s_argument, s_local, s_module, s_native}
-use Rattle.walks.specs.Match.{Match, stands}
-use Rattle.walks.specs.Places.{holds-place, alike}
-use Rattle.walks.specs.Each.{args-arity, Moved}
+use Rattle.walks.proofs.Holds.{has-error, node_at, Holds, Peeled, peel}
+use Rattle.walks.proofs.Agree.{Agree, ag_value, ag_arg, ag_filter, Same, s_nothing, s_argument, s_local, s_module, s_native}
+use Rattle.walks.proofs.Match.{Match, stands}
+use Rattle.walks.proofs.Places.{holds-place, alike}
+use Rattle.walks.proofs.Each.{args-arity, Moved}
 
 -- ---- how many parameters are pushed
 

@@ -20,7 +20,7 @@ use Rattle.walks.specs.TreeWalk.{View, Entry, Home, Seen, body_place, push_each,
 use Rattle.walks.specs.TableWalk as ByNumber
 use Rattle.walks.specs.TableWalk.{Cells, Cell, push_cells, skip, cell_at}
 use Rattle.walks.specs.Together.{all_imported, all_globals, entries_of, PlaceAt, SameEntry, s_imported, s_global, s_var, s_value, s_label}
-use Rattle.walks.specs.Holds.{Holds}
+use Rattle.walks.proofs.Holds.{Holds}
 
 -- ---- the lists
 

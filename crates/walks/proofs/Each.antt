@@ -19,9 +19,9 @@ use Rattle.walks.specs.TreeWalk.{View, Entry, arguments, keys, element_keys, ent
 use Rattle.walks.specs.TableWalk as ByNumber
 use Rattle.walks.specs.TableWalk.{Cells, Cell, here, at_each, arg_numbers, pat_vars, pats_vars, pat_keys, pats_keys, opt_vars, opt_keys, path_step, path_steps}
 use Rattle.walks.specs.Together.{PlaceAt}
-use Rattle.walks.specs.Holds.{nil-left, nil-right, Peeled, peel, only}
-use Rattle.walks.specs.Agree.{Agree, ag_var}
-use Rattle.walks.specs.Match.{Match, stands}
+use Rattle.walks.proofs.Holds.{nil-left, nil-right, Peeled, peel, only}
+use Rattle.walks.proofs.Agree.{Agree, ag_var}
+use Rattle.walks.proofs.Match.{Match, stands}
 
 -- the numbers of arguments, each with its mark
 pub numbers-bound : (ps : List Name) (ns : List ℕ) → length ns ≡ length ps → arg_numbers (binds ps ns) ≡ ns

@@ -1,9 +1,11 @@
 -- What `tree` promises: the theorems that a reader signs for. Each is proved below this page, and cited here. Assumes nothing.
 use Rattle.std.specs.Prelude.{ℕ, ◌≤◌, ◌≡◌, List, length}
 use Rattle.tree.specs.Tree.{Tree}
-use Rattle.tree.specs.Verdict.{Encodes, nesting, defining, Says, fine, says-zero, says-one}
-use Rattle.tree.specs.Unique.{unique}
-use Rattle.tree.specs.Encoded.{Bytes, same_bytes}
+use Rattle.tree.specs.Verdict.{Encodes, nesting, defining, Says, fine}
+use Rattle.tree.proofs.Verdicts.{says-zero, says-one}
+use Rattle.tree.proofs.Unique.{unique}
+use Rattle.tree.specs.Encoded.{Bytes}
+use Rattle.tree.proofs.Encoded.{same_bytes}
 
 -- "The team fixes tree tags in docs/, one encoding per tree": bytes hold one tree at most, and a tree has one row of bytes at most.
 pub one-tree : (b : List ℕ) (t u : Tree) → Encodes b t → Encodes b u → t ≡ u

@@ -15,7 +15,7 @@ use Rattle.rules.specs.Tails.{Tail, empty}
 use Rattle.rules.specs.Rows.{Filter, Env, find_label}
 use Rattle.rules.specs.Filters as Filters
 use Rattle.rules.specs.Filters.{Top, variable, meant, error_at}
-use Rattle.rules.specs.Outs.{Out, size, node, Made, bare, var_out, binary, ite_out, sum_out, lone_out, numeral, are_digits, decimal, var_name, vars, arity}
+use Rattle.rules.specs.Outs.{Out, size, Made, var_out, binary, ite_out, sum_out, lone_out, numeral, are_digits, decimal, var_name, vars, arity}
 use Rattle.rules.specs.Rules.{Waiting, called, fold_error, end_of_fold, out_of_fold, term, args, waiting, pattern, string, entry}
 use Rattle.rules.specs.Slices.{Table}
 use Rattle.walks.specs.Moves.{Move}
@@ -24,14 +24,14 @@ use Rattle.walks.specs.TreeWalk.{View, Entry, Spot, Leaf, seen, first_that, is_v
 use Rattle.walks.specs.TableWalk as ByNumber
 use Rattle.walks.specs.TableWalk.{Cells, Cell, here, cell_at}
 use Rattle.walks.specs.Together.{nodes_of, entries_of, entry_of, SamePick, Present, Finds, Stand, Together}
-use Rattle.walks.specs.Holds.{has-error, node_at, Holds}
-use Rattle.walks.specs.Agree.{Agree, Points, PointsAt, agree-home, agree-var, agree-label}
-use Rattle.walks.specs.Calls.{AllStocked, agree-meant}
-use Rattle.walks.specs.Match.{Plain, Held, leaf_node, entry_out, Match}
-use Rattle.walks.specs.Places.{match-place, alike}
-use Rattle.walks.specs.Each.{Moved, each-pick}
-use Rattle.walks.specs.Forms.{match-members}
-use Rattle.walks.specs.Enter.{Acts, call-acts}
+use Rattle.walks.proofs.Holds.{has-error, node_at, Holds}
+use Rattle.walks.proofs.Agree.{Agree, Points, PointsAt, agree-home, agree-var, agree-label}
+use Rattle.walks.proofs.Calls.{AllStocked, agree-meant}
+use Rattle.walks.proofs.Match.{Plain, Held, leaf_node, entry_out, Match}
+use Rattle.walks.proofs.Places.{match-place, alike}
+use Rattle.walks.proofs.Each.{Moved, each-pick}
+use Rattle.walks.proofs.Forms.{match-members}
+use Rattle.walks.proofs.Enter.{Acts, call-acts}
 
 module _ (T : Table) where
   -- a record that calls nothing and picks nothing

@@ -21,11 +21,14 @@ use Rattle.rules.specs.Lists.{Every, every_map}
 use Rattle.rules.specs.Slices.{Table}
 use Rattle.rules.specs.Listing.{flag, arg_list, pat_count, pat_bytes, pats_bytes, opt_pat_bytes, fold_bytes, opt_number, step_bytes, steps_bytes}
 use Rattle.rules.specs.Numbers.{In, InArgs, InPat, InPats, InOptPat, InOpt, InStep, InFold, Fine}
-use Rattle.rules.specs.Fine.{Of, table-fine}
-use Rattle.rules.specs.Count.{inserted, table-count}
-use Rattle.walks.specs.Weights.{weigh, weighs, names-weigh}
-use Rattle.walks.specs.Lightness.{Light, AllLight, both, light, light-defs}
-use Rattle.walks.specs.ReadBack.{Small, SmallOpt, SmallArgs, SmallPat, SmallPats, SmallOptPat, SmallStep, SmallFolding, Fits}
+use Rattle.rules.specs.Fine.{Of}
+use Rattle.rules.proofs.Fine.{table-fine}
+use Rattle.rules.specs.Count.{inserted}
+use Rattle.rules.proofs.Count.{table-count}
+use Rattle.walks.specs.Weights.{weigh, weighs}
+use Rattle.walks.proofs.Weights.{names-weigh}
+use Rattle.walks.proofs.Lightness.{Light, AllLight, both, light, light-defs}
+use Rattle.walks.proofs.ReadBack.{Small, SmallOpt, SmallArgs, SmallPat, SmallPats, SmallOptPat, SmallStep, SmallFolding, Fits}
 
 -- ---- the fields of the whole tree
 

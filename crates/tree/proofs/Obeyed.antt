@@ -12,7 +12,7 @@ use Rattle.tree.specs.Tree.{no_mark, a_mark, no_format, a_format, no_term, a_ter
 use Rattle.tree.specs.Tree.{parts_nil, parts_cons, part_index, part_range, without_bound, a_bound, s_nil, s_cons, s_text, s_char, s_term, es_nil, es_cons, no_globals, a_globals}
 use Rattle.tree.specs.Form.{f_name, f_number, f_names, f_numbers, f_mark, f_format, f_term, f_opt_term, f_terms, f_branches, f_defs, f_def, f_pattern, f_opt_pattern, f_patterns, f_pat_entries, f_parts, f_part, f_bound, f_str_parts, f_str_part, f_entries}
 use Rattle.tree.specs.Form.{f_native, f_natives, f_globals, f_import, f_imports, f_uses, f_module, f_modules, f_main, f_tree}
-use Rattle.tree.specs.Meaning.{g_pair, g_entry, g_pat_entry, g_from, g_upto, g_imports, g_includes, g_vars, g_defs, g_natives, g_globals}
+use Rattle.tree.proofs.Meaning.{g_pair, g_entry, g_pat_entry, g_from, g_upto, g_imports, g_includes, g_vars, g_defs, g_natives, g_globals}
 
 -- the members are those that g allows, and obey
 abbrev Good : Items → Roses → Type 0

@@ -10,7 +10,7 @@ use Rattle.tree.specs.Tree.{no_mark, a_mark, no_format, a_format, no_term, a_ter
 use Rattle.tree.specs.Tree.{parts_nil, parts_cons, without_bound, a_bound, s_nil, s_cons, s_term, es_nil, es_cons, no_globals, a_globals}
 use Rattle.tree.specs.Form.{f_name, f_number, f_names, f_numbers, f_mark, f_format, f_term, f_opt_term, f_terms, f_branches, f_defs, f_def, f_pattern, f_opt_pattern, f_patterns, f_pat_entries, f_parts, f_part, f_bound, f_str_parts, f_str_part, f_entries}
 use Rattle.tree.specs.Form.{f_native, f_natives, f_globals, f_import, f_imports, f_module, f_modules, f_main, f_tree}
-use Rattle.tree.specs.Match.{cat, Each, Mixed, Match}
+use Rattle.tree.proofs.Match.{cat, Each, Mixed, Match}
 
 -- ---- fields that have no type of their own: the place, and the members
 
