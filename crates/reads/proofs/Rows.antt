@@ -7,7 +7,8 @@ use lib.ListN.{length, get_or}
 use Rattle.tree.specs.Rose.{Rose, Roses, rnil, rcons, end_of, tag_of, At, Row, tagged, row-le}
 use Rattle.tree.specs.Tree.{Name, Term, Defs, Def, ds_nil, ds_cons, def}
 use Rattle.tree.specs.Tree.{t_id, t_recurse, t_arr, t_neg, t_label, t_break, t_if_then_else, t_var, t_call, t_def, t_num, t_try_catch, t_fold, t_pipe, t_bin_op, t_path, t_str, t_obj}
-use Rattle.tree.specs.Form.{f_name, f_names, f_term, f_defs, f_def, term-place}
+use Rattle.tree.specs.Form.{f_name, f_names, f_term, f_defs, f_def}
+use Rattle.tree.proofs.Form.{term-place}
 use Rattle.reads.specs.Bytes.{many, after, TermAt}
 
 -- ---- how many

@@ -11,7 +11,8 @@ use Rattle.tree.specs.Tree.{Name, Number, Mark, Format, Term, OptTerm, Pattern, 
 use Rattle.tree.specs.Tree.{t_id, t_recurse, t_arr, t_neg, t_label, t_break, t_if_then_else, t_var, t_call, t_def, t_num, t_try_catch, t_fold, t_pipe, t_bin_op, t_path, t_str, t_obj}
 use Rattle.tree.specs.Tree.{no_mark, a_mark, no_format, a_format, no_term, a_term, p_var, p_arr, p_obj, no_pattern, a_pattern, ps_nil, ps_cons, pes_nil, pes_cons}
 use Rattle.tree.specs.Tree.{parts_nil, parts_cons, part_index, part_range, without_bound, a_bound, s_nil, s_cons, s_text, s_char, s_term, es_nil, es_cons}
-use Rattle.tree.specs.Form.{f_name, f_number, f_mark, f_format, f_term, f_opt_term, f_pattern, f_opt_pattern, f_patterns, f_pat_entries, f_parts, f_part, f_bound, f_str_parts, f_str_part, f_entries, term-place, pattern-place}
+use Rattle.tree.specs.Form.{f_name, f_number, f_mark, f_format, f_term, f_opt_term, f_pattern, f_opt_pattern, f_patterns, f_pat_entries, f_parts, f_part, f_bound, f_str_parts, f_str_part, f_entries}
+use Rattle.tree.proofs.Form.{term-place, pattern-place}
 use Rattle.reads.specs.Bytes.{TermAt, PatternAt, name_at}
 
 -- ---- a member at the head of a row

@@ -8,12 +8,13 @@ use mathlib.Core.List.{List, [], ◌∷◌}
 use Rattle.tree.specs.Rose.{Rose, Roses, leaf, node, rnil, rcons, end_of, text_of, Field, At, Row, tag_of, place_of, row-le, tagged, inside}
 use Rattle.tree.specs.Leaf.{shape, leaf_ok, is_operator, both}
 use Rattle.tree.specs.Table.{shapes}
-use Rattle.tree.specs.Match.{not-both}
+use Rattle.tree.proofs.Match.{not-both}
 use Rattle.tree.specs.Tree.{Name, Number, Mark, Format, Term, OptTerm, Terms, Branches, Defs, Def, Pattern, OptPattern, Patterns, PatEntries, Parts, Part, Bound, StrParts, StrPart, Entries, term_place, pattern_place}
 use Rattle.tree.specs.Tree.{t_id, t_recurse, t_arr, t_neg, t_label, t_break, t_if_then_else, t_var, t_call, t_def, t_num, t_try_catch, t_fold, t_pipe, t_bin_op, t_path, t_str, t_obj}
 use Rattle.tree.specs.Tree.{no_mark, a_mark, no_format, a_format, no_term, a_term, ts_nil, ts_cons, b_none, b_else, b_pair, ds_nil, ds_cons, def, p_var, p_arr, p_obj, no_pattern, a_pattern, ps_nil, ps_cons, pes_nil, pes_cons}
 use Rattle.tree.specs.Tree.{parts_nil, parts_cons, part_index, part_range, without_bound, a_bound, s_nil, s_cons, s_text, s_char, s_term, es_nil, es_cons}
-use Rattle.tree.specs.Form.{f_name, f_names, f_mark, f_format, f_term, f_opt_term, f_terms, f_branches, f_defs, f_def, f_pattern, f_opt_pattern, f_patterns, f_pat_entries, f_parts, f_part, f_bound, f_str_parts, f_str_part, f_entries, term-place, pattern-place}
+use Rattle.tree.specs.Form.{f_name, f_names, f_mark, f_format, f_term, f_opt_term, f_terms, f_branches, f_defs, f_def, f_pattern, f_opt_pattern, f_patterns, f_pat_entries, f_parts, f_part, f_bound, f_str_parts, f_str_part, f_entries}
+use Rattle.tree.proofs.Form.{term-place, pattern-place}
 use Rattle.rules.specs.Outs.{arity}
 use Rattle.reads.specs.Bytes.{many, after, Fields, TermAt, PatternAt, DefAt, name_at, names_of, is_tag}
 

@@ -9,7 +9,7 @@ use Rattle.fields.specs.Room.{overlay}
 use Rattle.tree.specs.Rose.{end_of, text_of, rnil, At, Row, row-le}
 use Rattle.tree.specs.Leaf.{shape, leaf_ok}
 use Rattle.tree.specs.Table.{shapes}
-use Rattle.tree.specs.Match.{not-both}
+use Rattle.tree.proofs.Match.{not-both}
 use Rattle.tree.specs.Tree.{text_place, Term, OptTerm, no_term, a_term, Entries, es_nil, es_cons, t_obj, t_var}
 use Rattle.tree.specs.Tree.{t_id, t_recurse, t_arr, t_neg, t_label, t_break, t_if_then_else, t_call, t_def, t_num, t_try_catch, t_fold, t_pipe, t_bin_op, t_path, t_str}
 use Rattle.tree.specs.Form.{f_term, f_opt_term, f_entries}

@@ -6,7 +6,7 @@ use Rattle.reads.specs.Texts.{text-slice}
 use Rattle.fields.specs.Field.{field, length-field}
 use Rattle.fields.specs.Room.{overlay}
 use Rattle.tree.specs.Rose.{end_of, text_of, rnil, Row, row-le}
-use Rattle.tree.specs.Match.{not-both}
+use Rattle.tree.proofs.Match.{not-both}
 use Rattle.tree.specs.Tree.{Term, Format, no_format, StrParts, s_nil, s_cons, StrPart, s_text, t_str}
 use Rattle.tree.specs.Form.{f_format, f_str_parts}
 use Rattle.rules.specs.Table.{Rec, Node, n_str, n_to_string, Err}

@@ -1,5 +1,5 @@
 -- `records::jump` meets its contract: a parent, a sibling, or a definition of a module, which returns at most itself. Assumes nothing.
-use Rattle.rules.specs.Returns.{one-member}
+use Rattle.rules.proofs.Returns.{one-member}
 use Rattle.records.proofs.Jumps.{as-parent, as-sibling, as-outer}
 use Rattle.records.proofs.jump.Goals as goal
 
