@@ -26,7 +26,7 @@ const ENTRIES: &[&str] = &["filter_climb", "filter_lex", "filter_compile"];
 fn main() {
     println!("cargo:rerun-if-changed=build.rs");
     write_modules(&folder("JAQ_SRC", "../../shared/docs/src/src"));
-    link_library(&folder("FILTER_LIB", "../target/staticlib"));
+    link_library(&folder("FILTER_LIB", "../crates/exports/out"));
 }
 
 /// The folder that the variable names, else the default, which starts at this project.
