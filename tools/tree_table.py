@@ -3,9 +3,9 @@
 
 Run from the repository's root, then `rt fmt`. Writes crates/tree/specs/Table.antt and the table of
 crates/tree/src/table.rt: the tables stand twice, in the definitions and in the code, and the code's proofs show them
-equal. Also writes crates/tree/specs/Steps.antt, the regular clauses that say of each tag which part of a tree its field
-is: there each row stands once more, written out, and the prover compares it with the table. And, in
-crates/tree/specs/Obeyed.antt, the clauses between the lines "made" and "end of what is made", for the other way.
+equal. Also writes crates/tree/proofs/Steps.antt, the regular clauses that say of each tag which part of a tree its
+field is: there each row stands once more, written out, and the prover compares it with the table. And, in
+crates/tree/proofs/Obeyed.antt, the clauses between the lines "made" and "end of what is made", for the other way.
 
 An item of a row is eight times the class; and 0 for one member, 1 for none or one, 2 for any number, 3 for any number
 of this class or of terms; and 4 more if the row may end before it. A row ends with 4. Row 0 is that of the bytes
@@ -105,8 +105,7 @@ def listed(xs):
 def write_spec(classes, shapes, items):
     with open('crates/tree/specs/Table.antt', 'w') as f:
         f.write(f'''-- The tables of the tree form, made by tools/tree_table.py from TREE.md's table. Assumes nothing.
-use Prim.Native.Nat.{{ℕ}}
-use mathlib.Core.List.{{List, [], _∷_, _++_}}
+use Rattle.std.specs.Prelude.{{ℕ, List, [], ◌∷◌, ◌++◌}}
 
 -- of each byte that is a tag its class, {NONE} for any other. The classes are, from 1 on:
 -- {' '.join(CLASSES)}
@@ -140,32 +139,32 @@ def write_code(classes, shapes, items):
 # ---- the clauses for the tags
 
 # the field of a member of each class, and the function that takes an optional member or a list of it off a row
-FIELD = dict(tree='fTree', natives='gNatives', globals='gGlobals', module='fModule', main='fMain', native='fNative', imports='gImports', includes='gIncludes',
-             vars='gVars', definitions='gDefs', name='(fName 0x90)', number='(fNumber 0x8D)', PATTERN='fPattern', TERM='fTerm', OPERATOR='gOp', pair='gPair')
-FIELD['import'] = 'fImport'
-TAKE = {'globals?': ('globals?', 'fGlobals'), 'module*': ('modules', 'fModules'), 'native*': ('natives', 'fNatives'), 'name*': ('names', 'fNames 0x90'),
-        'parameter*': ('params', 'fNames 0x91'), 'import*': ('imports', 'fImports'), 'number*': ('numbers', 'fNumbers'), 'definition*': ('definitions', 'fDefs'),
-        'PATTERN*': ('patterns', 'fPatterns'), 'patentry*': ('patEntries', 'fPatEntries'), 'PATTERN?': ('pattern?', 'fOptPattern'), 'TERM?': ('term?', 'fOptTerm'),
-        'TERM*': ('terms', 'fTerms'), 'part*': ('parts', 'fParts'), 'format?': ('format?', 'fFormat'), 'strpart|TERM*': ('strParts', 'fStrParts'),
-        'entry*': ('entries', 'fEntries'), 'optional?': ('mark?', 'fMark'), 'from?': ('from?', 'fBound 0xC1'), 'upto?': ('upto?', 'fBound 0xC2')}
+FIELD = dict(tree='f_tree', natives='g_natives', globals='g_globals', module='f_module', main='f_main', native='f_native', imports='g_imports', includes='g_includes',
+             vars='g_vars', definitions='g_defs', name='(f_name 0x90)', number='(f_number 0x8D)', PATTERN='f_pattern', TERM='f_term', OPERATOR='g_op', pair='g_pair')
+FIELD['import'] = 'f_import'
+TAKE = {'globals?': ('globals?', 'f_globals'), 'module*': ('modules', 'f_modules'), 'native*': ('natives', 'f_natives'), 'name*': ('names', 'f_names 0x90'),
+        'parameter*': ('params', 'f_names 0x91'), 'import*': ('imports', 'f_imports'), 'number*': ('numbers', 'f_numbers'), 'definition*': ('definitions', 'f_defs'),
+        'PATTERN*': ('patterns', 'f_patterns'), 'patentry*': ('pat_entries', 'f_pat_entries'), 'PATTERN?': ('pattern?', 'f_opt_pattern'), 'TERM?': ('term?', 'f_opt_term'),
+        'TERM*': ('terms', 'f_terms'), 'part*': ('parts', 'f_parts'), 'format?': ('format?', 'f_format'), 'strpart|TERM*': ('str_parts', 'f_str_parts'),
+        'entry*': ('entries', 'f_entries'), 'optional?': ('mark?', 'f_mark'), 'from?': ('from?', 'f_bound 0xC1'), 'upto?': ('upto?', 'f_bound 0xC2')}
 
-USES = 'record { importsAt = a .0 .0; imports = a .0 .1; includesAt = b .0 .0; includes = b .0 .1; varsAt = c .0 .0; vars = c .0 .1 }'
+USES = 'record { imports_at = a.0.0; imports = a.0.1; includes_at = b.0.0; includes = b.0.1; vars_at = c.0.0; vars = c.0.1 }'
 # the part of the tree: p is the field's place, x a leaf's content, a b c d the members as they are taken off the row
 PART = {
-    0x80: 'record { place = p; nativesAt = a .0 .0; natives = a .0 .1; globals = b .0; modules = c .0; main = d .0 }',
-    0x81: '(p, a .0)', 0x82: '(p, a .0)', 0x86: '(p, a .0)', 0x87: '(p, a .0)', 0x88: '(p, a .0)', 0x89: '(p, a .0)',
-    0x83: f'record {{ place = p; uses = {USES}; defsAt = d .0 .0; defs = d .0 .1 }}',
-    0x84: f'record {{ place = p; uses = {USES}; body = d .0 }}',
-    0x85: 'record { place = p; name = a .0; params = b .0 }',
-    0x8A: 'record { place = p; number = a .0; name = b .0 }',
-    0x8C: 'def p (a .0) (b .0) (c .0)',
+    0x80: 'record { place = p; natives_at = a.0.0; natives = a.0.1; globals = b.0; modules = c.0; main = d.0 }',
+    0x81: '(p, a.0)', 0x82: '(p, a.0)', 0x86: '(p, a.0)', 0x87: '(p, a.0)', 0x88: '(p, a.0)', 0x89: '(p, a.0)',
+    0x83: f'record {{ place = p; uses = {USES}; defs_at = d.0.0; defs = d.0.1 }}',
+    0x84: f'record {{ place = p; uses = {USES}; body = d.0 }}',
+    0x85: 'record { place = p; name = a.0; params = b.0 }',
+    0x8A: 'record { place = p; number = a.0; name = b.0 }',
+    0x8C: 'def p a.0 b.0 c.0',
     0x8D: 'record { place = p; bytes = x }', 0x90: 'record { place = p; text = x }', 0x91: 'record { place = p; text = x }', 0xBA: 'record { place = p; text = x }',
-    0x98: 'pVar p x', 0x99: 'pArr p (a .0)', 0x9A: 'pObj p (a .0)', 0x9B: '(p, a .0, b .0)',
-    0xA0: 'tId p', 0xA1: 'tRecurse p', 0xA2: 'tArr p (a .0)', 0xA3: 'tNeg p (a .0)', 0xA4: 'tLabel p (a .0) (b .0)', 0xA5: 'tBreak p x', 0xA7: 'tVar p x',
-    0xA8: 'tCall p (a .0) (b .0)', 0xA9: 'tDef p (a .0) (b .0)', 0xAA: 'tNum p x', 0xAB: 'tTryCatch p (a .0) (b .0)', 0xAC: 'tFold p (a .0) (b .0) (c .0) (d .0)',
-    0xAE: 'tPath p (a .0) (b .0)', 0xAF: 'tStr p (a .0) (b .0)', 0xB0: 'tObj p (a .0)', 0xB7: 'opPipe p (a .0)', 0xB8: '(p, a .0, b .0)', 0xB9: 'opByte p x',
-    0xBB: 'sText (record { place = p; text = x })', 0xBC: 'sChar (record { place = p; bytes = x })', 0xBD: '(p, a .0, b .0)', 0xBE: 'partIndex p (a .0) (b .0)',
-    0xBF: 'partRange p (a .0) (b .0) (c .0)', 0xC0: 'p', 0xC1: '(p, a .0)', 0xC2: '(p, a .0)',
+    0x98: 'p_var p x', 0x99: 'p_arr p a.0', 0x9A: 'p_obj p a.0', 0x9B: '(p, a.0, b.0)',
+    0xA0: 't_id p', 0xA1: 't_recurse p', 0xA2: 't_arr p a.0', 0xA3: 't_neg p a.0', 0xA4: 't_label p a.0 b.0', 0xA5: 't_break p x', 0xA7: 't_var p x',
+    0xA8: 't_call p a.0 b.0', 0xA9: 't_def p a.0 b.0', 0xAA: 't_num p x', 0xAB: 't_try_catch p a.0 b.0', 0xAC: 't_fold p a.0 b.0 c.0 d.0',
+    0xAE: 't_path p a.0 b.0', 0xAF: 't_str p a.0 b.0', 0xB0: 't_obj p a.0', 0xB7: 'op_pipe p a.0', 0xB8: '(p, a.0, b.0)', 0xB9: 'op_byte p x',
+    0xBB: 's_text (record { place = p; text = x })', 0xBC: 's_char (record { place = p; bytes = x })', 0xBD: '(p, a.0, b.0)', 0xBE: 'part_index p a.0 b.0',
+    0xBF: 'part_range p a.0 b.0 c.0', 0xC0: 'p', 0xC1: '(p, a.0)', 0xC2: '(p, a.0)',
 }
 
 
@@ -191,16 +190,16 @@ def taken(words, rows, row):
             take, put = TAKE[word]
             lines.append(f'let {v} = {take} {paren(rest)} {at} {having} in')
         else:
-            put = f'rcons ({FIELD[word].strip("()")} ({v} .0))' if word in FIELD else None
+            put = f'rcons ({FIELD[word].strip("()")} {v}.0)' if word in FIELD else None
             lines.append(f'let {v} = member {FIELD[word]} (Match Meaning {paren(rest)}) {at} {having} in')
             puts.append((put, v))
-            at, having = f'({v} .1)', f'({v} .3)'
+            at, having = f'{v}.1', f'{v}.3'
             continue
-        puts.append((f'{put} ({v} .0)', v))
-        at, having = f'({v} .1)', f'({v} .3)'
+        puts.append((f'{put} {v}.0', v))
+        at, having = f'{v}.1', f'{v}.3'
     eq = f'sym {having}'
     for put, v in reversed(puts):
-        eq = f'ap ({put}) ({eq}) ∙ {v} .2'
+        eq = f'ap ({put}) ({eq}) ∙ {v}.2'
     return lines, eq
 
 
@@ -208,24 +207,24 @@ def step(tag, name, content):
     k, c = f'0x{tag:02X}', CLASS[name]
     if isinstance(content, int):
         return f"""step-{tag:02X} : (p : ℕ) (x : List ℕ) → Meaning {c} (leaf {k} p x)
-unfolding fTerm
+unfolding f_term
 step-{tag:02X} p x = ({PART[tag]}, refl)
 """
     words = content.split()
     rows = rows_of(words)
     head = f"""step-{tag:02X} : (p : ℕ) (rs : Roses) → Match Meaning {paren(rows[0])} rs → Meaning {c} (node {k} p rs)
-unfolding fTerm fNative fImport fUses fModule fMain fTree
+unfolding f_term f_native f_import f_uses f_module f_main f_tree
 step-{tag:02X} p rs h =
 """
     if tag == 0xA6:
-        return head + f"""    let a = member gPair (Match Meaning {paren(rows[1])}) rs h in
-    let w = branches (a .1) (a .3) in
-    (tIfThenElse p (a .0 .0) (a .0 .1) (a .0 .2) (w .0), ap (node {k} p) (ap (rcons (gPair (a .0))) (w .1) ∙ a .2))
+        return head + f"""    let a = member g_pair (Match Meaning {paren(rows[1])}) rs h in
+    let w = branches a.1 a.3 in
+    (t_if_then_else p a.0.0 a.0.1 a.0.2 w.0, ap (node {k} p) (ap (rcons (g_pair a.0)) w.1 ∙ a.2))
 """
     lines, eq = taken(words, rows, 'rs')
     body = ''.join(f'    {line}\n' for line in lines)
     if tag == 0xAD:
-        return head + body + f'    let w = binary p (a .0) (b .0) (c .0) in\n    (w .0, w .1 ∙ ap (node {k} p) ({eq}))\n'
+        return head + body + f'    let w = binary p a.0 b.0 c.0 in\n    (w.0, w.1 ∙ ap (node {k} p) ({eq}))\n'
     return head + body + f'    ({PART[tag]}, ap (node {k} p) ({eq}))\n'
 
 
@@ -233,29 +232,28 @@ def write_steps():
     steps = '\n'.join(step(*row) for row in FORM)
     known = ' ∷ '.join(f'0x{tag:02X}' for tag, _, _ in FORM)
     tuple_ = ''.join(f'(step-{tag:02X}, ' for tag, _, _ in FORM) + 'tt' + ')' * len(FORM)
-    with open('crates/tree/specs/Steps.antt', 'w') as f:
+    with open('crates/tree/proofs/Steps.antt', 'w') as f:
         f.write(f"""-- Of each tag: its field, with the content that the table allows, is that of a part of a tree. Made by tools/tree_table.py from TREE.md's table; each row of
 -- members stands here written out, and `all-steps` compares it with the table. Assumes nothing.
-use Prim.Native.Nat.{{ℕ}}
-use mathlib.Core.Path.{{_≡_, refl, sym, ap, _∙_}}
-use mathlib.Core.List.{{List, [], _∷_}}
-use Rattle·tree·specs.specs.Rose.{{Roses, leaf, node, rnil, rcons}}
-use Rattle·tree·specs.specs.Table.{{classes, shapes, items}}
-use Rattle·tree·specs.specs.Leaf.{{class, shape}}
-use Rattle·tree·specs.specs.Grammar.{{end, one, opt, many, mix, decode, rowAt}}
-use Rattle·tree·specs.specs.Tree.{{Term, tId, tRecurse, tArr, tNeg, tLabel, tBreak, tIfThenElse, tVar, tCall, tDef, tNum, tTryCatch, tFold, tPipe, tBinOp, tPath, tStr, tObj}}
-use Rattle·tree·specs.specs.Tree.{{def, pVar, pArr, pObj, partIndex, partRange, sText, sChar}}
-use Rattle·tree·specs.specs.Form.{{fName, fNumber, fNames, fNumbers, fMark, fFormat, fTerm, fOptTerm, fTerms, fDefs, fPattern, fOptPattern, fPatterns, fPatEntries, fParts, fBound, fStrParts, fEntries}}
-use Rattle·tree·specs.specs.Form.{{fNative, fNatives, fGlobals, fImport, fImports, fUses, fModule, fModules, fMain, fTree}}
-use Rattle·tree·specs.specs.Match.{{Match, Step}}
-use Rattle·tree·specs.specs.Meaning.{{Meaning, Op, opPipe, opByte, gOp, gNatives, gImports, gIncludes, gVars, gDefs, gPair, member, branches}}
-use Rattle·tree·specs.specs.Meaning.{{term?, pattern?, mark?, format?, from?, upto?, globals?, terms, definitions, patterns, patEntries, entries, parts, names, params, numbers, imports, natives, modules, strParts}}
+use Rattle.std.specs.Prelude.{{ℕ, ◌≡◌, refl, List, [], ◌∷◌}}
+use Rattle.std.proofs.Common.{{sym, ap, ◌∙◌}}
+use Rattle.tree.specs.Rose.{{Roses, leaf, node, rnil, rcons}}
+use Rattle.tree.specs.Table.{{classes, shapes, items}}
+use Rattle.tree.specs.Leaf.{{class, shape}}
+use Rattle.tree.specs.Grammar.{{end, one, opt, many, mix, decode, row_at}}
+use Rattle.tree.specs.Tree.{{Term, t_id, t_recurse, t_arr, t_neg, t_label, t_break, t_if_then_else, t_var, t_call, t_def, t_num, t_try_catch, t_fold, t_pipe, t_bin_op, t_path, t_str, t_obj}}
+use Rattle.tree.specs.Tree.{{def, p_var, p_arr, p_obj, part_index, part_range, s_text, s_char}}
+use Rattle.tree.specs.Form.{{f_name, f_number, f_names, f_numbers, f_mark, f_format, f_term, f_opt_term, f_terms, f_defs, f_pattern, f_opt_pattern, f_patterns, f_pat_entries, f_parts, f_bound, f_str_parts, f_entries}}
+use Rattle.tree.specs.Form.{{f_native, f_natives, f_globals, f_import, f_imports, f_uses, f_module, f_modules, f_main, f_tree}}
+use Rattle.tree.proofs.Match.{{Match, Step}}
+use Rattle.tree.proofs.Meaning.{{Meaning, Op, op_pipe, op_byte, g_op, g_natives, g_imports, g_includes, g_vars, g_defs, g_pair, member, branches}}
+use Rattle.tree.proofs.Meaning.{{term?, pattern?, mark?, format?, from?, upto?, globals?, terms, definitions, patterns, pat_entries, entries, parts, names, params, numbers, imports, natives, modules, str_parts}}
 
 -- a BinOp, of either kind of operator
-binary : (p : ℕ) (t : Term) (o : Op) (u : Term) → (v : Term) × (fTerm v ≡ node 0xAD p (rcons (fTerm t) (rcons (gOp o) (rcons (fTerm u) rnil))))
-unfolding fTerm
-binary p t (opPipe q x) u = (tPipe p t q x u, refl)
-binary p t (opByte q x) u = (tBinOp p t q x u, refl)
+binary : (p : ℕ) (t : Term) (o : Op) (u : Term) → (v : Term) × (f_term v ≡ node 0xAD p (rcons (f_term t) (rcons (g_op o) (rcons (f_term u) rnil))))
+unfolding f_term
+binary p t (op_pipe q x) u = (t_pipe p t q x u, refl)
+binary p t (op_byte q x) u = (t_bin_op p t q x u, refl)
 
 {steps}
 -- ---- all tags
@@ -269,7 +267,7 @@ Steps (k ∷ ks) = Step Meaning k × Steps ks
 
 -- the rows above are those of the table
 pub all-steps : Steps known
-unfolding known class shape classes shapes items decode rowAt
+unfolding known class shape classes shapes items decode row_at
 all-steps = {tuple_}
 """)
 
@@ -278,19 +276,19 @@ all-steps = {tuple_}
 
 # of each constructor the pattern, and its members in the order of the row; p is the place
 MEMBERS = {
-    0x8C: ('def p f xs t', 'f xs t'), 0x98: ('pVar p x', ''), 0x99: ('pArr p xs', 'xs'), 0x9A: ('pObj p es', 'es'),
-    0xA0: ('tId p', ''), 0xA1: ('tRecurse p', ''), 0xA2: ('tArr p o', 'o'), 0xA3: ('tNeg p t', 't'), 0xA4: ('tLabel p x t', 'x t'), 0xA5: ('tBreak p x', ''),
-    0xA7: ('tVar p x', ''), 0xA8: ('tCall p f ts', 'f ts'), 0xA9: ('tDef p ds t', 'ds t'), 0xAA: ('tNum p x', ''), 0xAB: ('tTryCatch p t o', 't o'),
-    0xAC: ('tFold p f t x ts', 'f t x ts'), 0xAE: ('tPath p t ps', 't ps'), 0xB0: ('tObj p es', 'es'),
-    0xBE: ('partIndex p t m', 't m'), 0xBF: ('partRange p a z m', 'a z m'),
+    0x8C: ('def p f xs t', 'f xs t'), 0x98: ('p_var p x', ''), 0x99: ('p_arr p xs', 'xs'), 0x9A: ('p_obj p es', 'es'),
+    0xA0: ('t_id p', ''), 0xA1: ('t_recurse p', ''), 0xA2: ('t_arr p o', 'o'), 0xA3: ('t_neg p t', 't'), 0xA4: ('t_label p x t', 'x t'), 0xA5: ('t_break p x', ''),
+    0xA7: ('t_var p x', ''), 0xA8: ('t_call p f ts', 'f ts'), 0xA9: ('t_def p ds t', 'ds t'), 0xAA: ('t_num p x', ''), 0xAB: ('t_try_catch p t o', 't o'),
+    0xAC: ('t_fold p f t x ts', 'f t x ts'), 0xAE: ('t_path p t ps', 't ps'), 0xB0: ('t_obj p es', 'es'),
+    0xBE: ('part_index p t m', 't m'), 0xBF: ('part_range p a z m', 'a z m'),
 }
 # a member's class and field, that it is of its class, that it obeys
-ONE = {'TERM': ('fTerm {}', 'class-term {}', 'o-term {}'), 'PATTERN': ('fPattern {}', 'class-pattern {}', 'o-pattern {}'), 'name': ('fName 0x90 {}', 'refl', 'refl')}
+ONE = {'TERM': ('f_term {}', 'class-term {}', 'o-term {}'), 'PATTERN': ('f_pattern {}', 'class-pattern {}', 'o-pattern {}'), 'name': ('f_name 0x90 {}', 'refl', 'refl')}
 # the function of an optional member or a list, and the lemma on it
-SOME = {'TERM?': ('fOptTerm', 'o-opt-term'), 'TERM*': ('fTerms', 'o-terms'), 'definition*': ('fDefs', 'o-defs'), 'parameter*': ('fNames 0x91', 'o-names 0x91 15 refl refl'),
-        'PATTERN?': ('fOptPattern', 'o-opt-pattern'), 'PATTERN*': ('fPatterns', 'o-patterns'), 'patentry*': ('fPatEntries', 'o-pat-entries'), 'part*': ('fParts', 'o-parts'),
-        'entry*': ('fEntries', 'o-entries'), 'optional?': ('fMark', 'o-mark'),
-        'from?': ('fBound 0xC1', 'o-bound 0xC1 26 good-from refl'), 'upto?': ('fBound 0xC2', 'o-bound 0xC2 27 good-upto refl')}
+SOME = {'TERM?': ('f_opt_term', 'o-opt-term'), 'TERM*': ('f_terms', 'o-terms'), 'definition*': ('f_defs', 'o-defs'), 'parameter*': ('f_names 0x91', 'o-names 0x91 15 refl refl'),
+        'PATTERN?': ('f_opt_pattern', 'o-opt-pattern'), 'PATTERN*': ('f_patterns', 'o-patterns'), 'patentry*': ('f_pat_entries', 'o-pat-entries'), 'part*': ('f_parts', 'o-parts'),
+        'entry*': ('f_entries', 'o-entries'), 'optional?': ('f_mark', 'o-mark'),
+        'from?': ('f_bound 0xC1', 'o-bound 0xC1 26 good-from refl'), 'upto?': ('f_bound 0xC2', 'o-bound 0xC2 27 good-upto refl')}
 
 
 def parse(word):
@@ -347,7 +345,7 @@ def clause(function, tag):
 
 
 def write_obeyed():
-    path = 'crates/tree/specs/Obeyed.antt'
+    path = 'crates/tree/proofs/Obeyed.antt'
     text = open(path).read()
     for function, tags in (('o-term', [t for t, c, _ in FORM if c == 'TERM' and t not in (0xA6, 0xAD, 0xAF)]), ('o-def', [0x8C]), ('o-pattern', [0x98, 0x99, 0x9A]), ('o-part', [0xBE, 0xBF])):
         clauses = ''.join(clause(function, t) for t in tags)
