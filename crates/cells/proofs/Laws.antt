@@ -1,12 +1,11 @@
 -- What the functions on cells do, as laws on lists and numbers. Assumes nothing.
-use Prim.Native.Nat.{ℕ, suc, ◌+◌, ◌-◌, ◌*◌, ◌/◌, ◌%◌, ◌^◌, ◌≤◌, ◌<◌}
+use Prim.Native.Nat.{ℕ, suc, ◌+◌, ◌*◌, ◌/◌, ◌%◌, ◌^◌, ◌≤◌, ◌<◌}
 use native.Mathlib.Omega.{arith}
-use mathlib.Core.Path.{◌≡◌, refl, sym, ap}
+use mathlib.Core.Path.{◌≡◌, refl, sym}
 use mathlib.Core.List.{List}
 use lib.Bits.{bit_and, bit_xor, xor_lt, and_le_l, and_le_r}
 use borrow.Author.Tests.{lt-ltb, le-ltb}
-use lib.ListN.{length, get_or, set, take, drop}
-use Rattle.tree.specs.Rose.{end_of, text_of}
+use lib.ListN.{length, get_or, set}
 use Rattle.reads.specs.Bytes.{head_of, word_of}
 use Rattle.cells.specs.Cells.{key_of, class_of, pushed, bound_as}
 

@@ -1,12 +1,12 @@
 -- What the rows in memory stand for. Four numbers a row; what a search starts from stands in the cells before them. Assumes nothing.
-use Rattle.std.specs.Prelude.{ℕ, zero, suc, ◌+◌, ◌-◌, ◌*◌, ◌/◌, ◌%◌, ◌^◌, ◌≤◌, ◌<◌, ◌≡◌, Bool, true, false, cond, ◌&&◌, List, [], ◌∷◌, ◌++◌, eqb, leb, ltb, length, get_or, set, take}
+use Rattle.std.specs.Prelude.{ℕ, zero, suc, ◌+◌, ◌-◌, ◌*◌, ◌/◌, ◌%◌, ◌≤◌, ◌<◌, ◌≡◌, true, cond, List, [], ◌∷◌, ◌++◌, eqb, ltb, length, get_or, set, take}
 use Rattle.std.proofs.lemmas.List.Edits.{sets}
 use Rattle.tree.specs.Rose.{node, rnil, end_of, text_of, At}
 use Rattle.tree.specs.Tree.{Name, Native}
 use Rattle.tree.specs.Form.{f_imports, f_numbers}
 use Rattle.tree.specs.Numbers.{uses_below}
 use Rattle.rules.specs.Tails.{parent, sibling}
-use Rattle.rules.specs.Rows.{Row, var, label, arg, filter, Filter, Env, count, level, filters}
+use Rattle.rules.specs.Rows.{var, label, arg, filter, Filter, Env, count, level, filters}
 use Rattle.rules.specs.Filters.{Imported, Top, home_of}
 use Rattle.rules.specs.Lists.{Member, Every}
 use Rattle.rules.specs.Returns.{Lone}

@@ -1,16 +1,9 @@
 -- Conditionals and sums, which the rules make from the last one back, as the code makes them: first what all of them contain, then their own records. Assumes nothing.
-use Rattle.std.specs.Prelude.{ℕ, zero, suc, ◌+◌, ◌≡◌, refl, List, [], ◌∷◌, ◌++◌, map, length}
-use Rattle.std.proofs.Common.{arith, sym, ap, ap₂, subst, ◌∙◌, append_assoc, append-nil, length-append}
-use Rattle.std.proofs.Math.Option.{Option, none, some}
-use Rattle.std.specs.Int.Bits.{bit_or}
-use Rattle.tree.specs.Tree.{Term, Branches, b_none, b_else, b_pair}
-use Rattle.rules.specs.Table.{Rec, Node, n_math, n_ite, Err}
-use Rattle.rules.specs.Tails.{Tail, empty, union}
-use Rattle.rules.specs.Rows.{Env}
-use Rattle.rules.specs.Filters.{Top}
-use Rattle.rules.specs.Outs.{Out, slot, size, node, sum_out, ite_out}
-use Rattle.rules.specs.Rules.{term, branches}
-use Rattle.cells.specs.Notes.{Pair, Pairs, pairs_of, else_of, elses_of, sum_all, held, held_errs, Summed, summed}
+use Rattle.std.specs.Prelude.{ℕ, suc, ◌+◌, ◌≡◌, List, [], ◌∷◌, ◌++◌, map, length}
+use Rattle.std.proofs.Common.{arith, sym, ap, ap₂, ◌∙◌, append_assoc, append-nil, length-append}
+use Rattle.rules.specs.Table.{Rec, Node, n_math, Err}
+use Rattle.rules.specs.Outs.{Out, sum_out}
+use Rattle.cells.specs.Notes.{sum_all, held, held_errs, Summed, summed}
 
 -- ---- sums
 

@@ -1,7 +1,7 @@
 -- Rows that leave the view: their heads' cells change, and no row does. Assumes nothing.
-use Rattle.std.specs.Prelude.{ℕ, zero, suc, ◌+◌, ◌-◌, ◌*◌, ◌≤◌, ◌<◌, ◌≡◌, refl, Bool, true, false, cond, List, [], ◌∷◌, ltb, length, get_or, set}
+use Rattle.std.specs.Prelude.{ℕ, zero, suc, ◌+◌, ◌-◌, ◌*◌, ◌≤◌, ◌<◌, ◌≡◌, refl, Bool, true, false, cond, List, ltb, length, get_or, set}
 use Rattle.std.proofs.Common.{arith, sym, ap, ap₂, subst, ◌∙◌, length-set, get_or-set_other, lt-ltb, le-ltb, ltb-true}
-use Rattle.cells.specs.Cells.{cell, kind_at, head_at, link_at, unlinked, unlinked_all, closed}
+use Rattle.cells.specs.Cells.{kind_at, head_at, link_at, unlinked, unlinked_all, closed}
 
 pub unlinked-note : (s : List ℕ) (j k : ℕ) → k ≡ kind_at s j → 6 ≤ k → s ≡ unlinked s j
 unfolding unlinked

@@ -1,16 +1,16 @@
 -- What notes keep, read back as the parts of records that they are for. Assumes nothing.
-use Rattle.std.specs.Prelude.{ℕ, zero, suc, ◌+◌, ◌≡◌, Bool, true, false, cond, List, [], ◌∷◌, ◌++◌, length, get_or}
+use Rattle.std.specs.Prelude.{ℕ, zero, suc, ◌+◌, List, [], ◌∷◌, ◌++◌, length}
 use Rattle.std.proofs.Math.Option.{Option, none, some}
 use Rattle.fields.specs.Number.{value}
 use Rattle.text.specs.Utf8.{utf8}
-use Rattle.tree.specs.Tree.{Name, Branches, b_none, b_else, b_pair, Pattern, p_var, p_arr, p_obj, Patterns, ps_nil, ps_cons, PatEntries, pes_nil, pes_cons, Parts, parts_nil, parts_cons, Part, part_index, part_range, Bound, without_bound, a_bound, StrParts, s_nil, s_cons, StrPart, s_text, s_char, s_term, Entries, es_nil, es_cons, pattern_place}
+use Rattle.tree.specs.Tree.{Branches, b_none, b_else, b_pair, Pattern, p_var, p_arr, p_obj, Patterns, ps_nil, ps_cons, PatEntries, pes_nil, pes_cons, Parts, parts_nil, parts_cons, Part, part_index, part_range, Bound, without_bound, a_bound, StrParts, s_nil, s_cons, StrPart, s_text, s_char, s_term, Entries, es_nil, es_cons}
 use Rattle.rules.specs.Table.{Rec, Node, n_str, n_pipe, n_obj_single, n_math, n_ite, Err, Pat, pat_var, pat_idx, Pats, pats_nil, pats_cons, Step, index, range}
 use Rattle.rules.specs.Tails.{Tail, empty, union}
 use Rattle.rules.specs.Rows.{Env}
 use Rattle.rules.specs.Filters.{Top}
-use Rattle.rules.specs.Outs.{Out, slot, size, node, leaf, is_optional, sum_out, var_name}
+use Rattle.rules.specs.Outs.{Out, slot, size, is_optional, sum_out, var_name}
 use Rattle.rules.specs.Rules.{term, string, entry}
-use Rattle.cells.specs.Cells.{number_at, last_at, kind_at}
+use Rattle.cells.specs.Cells.{number_at, last_at}
 
 -- the first numbers of the n notes from row k on, and their second
 unfoldable pub numbers_of : List ℕ → ℕ → ℕ → List ℕ

@@ -1,7 +1,7 @@
 -- What every form's law uses: what stores leave of the state's three numbers, how far an own record moves the next offset, and a form's promise from its parts.
 -- Assumes nothing.
-use Rattle.std.specs.Prelude.{ℕ, suc, ◌+◌, ◌-◌, ◌*◌, ◌^◌, ◌≤◌, ◌<◌, ◌≡◌, refl, Bool, true, false, cond, ◌⊎◌, List, [], ◌∷◌, ◌++◌, eqb, length, get_or, set, take}
-use Rattle.std.proofs.Common.{arith, sym, ap, ap₂, subst, ◌∙◌, inl, inr, length-set, get_or-set_same, get_or-set_other, eqb-true}
+use Rattle.std.specs.Prelude.{ℕ, ◌+◌, ◌*◌, ◌≤◌, ◌<◌, ◌≡◌, refl, Bool, true, false, cond, List, [], ◌∷◌, ◌++◌, eqb, length, get_or, set, take}
+use Rattle.std.proofs.Common.{arith, sym, ap, subst, ◌∙◌, length-set, get_or-set_same, get_or-set_other, eqb-true}
 use Rattle.tree.specs.Rose.{end_of}
 use Rattle.tree.specs.Tree.{Term}
 use Rattle.fields.specs.Number.{number}
@@ -9,15 +9,15 @@ use Rattle.fields.specs.Field.{field}
 use Rattle.fields.specs.Room.{overlay}
 use Rattle.rules.specs.Table.{Rec, Node, Err}
 use Rattle.rules.specs.Tails.{Tail}
-use Rattle.rules.specs.Outs.{Out, slot, node}
-use Rattle.rules.specs.Listing.{node_bytes, rec_bytes, table_bytes, errs_bytes}
+use Rattle.rules.specs.Outs.{Out, node}
+use Rattle.rules.specs.Listing.{node_bytes, rec_bytes, table_bytes}
 use Rattle.rules.specs.Rules.{term}
 use Rattle.reads.specs.Bytes.{TermAt}
 use Rattle.reads.specs.Shapes.{term_fits}
-use Rattle.puts.specs.State.{num, off, ers, late, start_of, spot_of, next_of, members_at, members_end, Put, Own}
+use Rattle.puts.specs.State.{num, off, ers, late, start_of, spot_of, next_of, Put, Own}
 use Rattle.puts.specs.Rooms.{own-one}
 use Rattle.cells.specs.Cells.{View, Seen, env_of, number_at, last_at}
-use Rattle.compiler.specs.Post.{Ready, Stands, Placed, Paid, Did, Laid}
+use Rattle.compiler.specs.Post.{Ready, Stands, Paid, Did}
 
 -- ---- stores into the state
 

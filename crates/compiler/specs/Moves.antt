@@ -1,24 +1,19 @@
 -- Steps that the forms have in common: the state after a store, what a callee keeps in view, how what was paid adds up, and from what a form has put to what
 -- its contract promises. Assumes nothing.
-use Rattle.std.specs.Prelude.{ℕ, zero, suc, ◌+◌, ◌-◌, ◌*◌, ◌^◌, ◌≤◌, ◌<◌, ◌≡◌, refl, Bool, true, false, cond, ◌⊎◌, List, [], ◌∷◌, ◌++◌, eqb, length, get_or, set, take}
-use Rattle.std.proofs.Common.{arith, sym, ap, ap₂, subst, ◌∙◌, inl, inr, append-nil, length-append, eqb-true}
-use Rattle.std.proofs.lemmas.Bool.{eqb-false}
-use Rattle.fields.specs.Room.{overlay, overlay-none, overlay-out, length-overlay}
-use Rattle.tree.specs.Rose.{end_of}
+use Rattle.std.specs.Prelude.{ℕ, suc, ◌+◌, ◌*◌, ◌≤◌, ◌<◌, ◌≡◌, List, [], ◌∷◌, length, get_or, set, take}
+use Rattle.std.proofs.Common.{arith, sym, ap, subst, ◌∙◌}
 use Rattle.tree.specs.Tree.{Term}
-use Rattle.rules.specs.Table.{Rec, Err}
 use Rattle.rules.specs.Rows.{Env}
-use Rattle.rules.specs.Outs.{Out, slot}
-use Rattle.rules.specs.Listing.{rec_bytes, table_bytes, err_bytes, errs_bytes}
+use Rattle.rules.specs.Outs.{slot}
 use Rattle.rules.specs.Rules.{term}
-use Rattle.puts.specs.State.{num, off, ers, late, start_of, spot_of, next_of, members_end, Put, Own}
+use Rattle.puts.specs.State.{num, off, ers, start_of, Put}
 use Rattle.puts.specs.Rooms.{start-high}
 use Rattle.reads.specs.Bytes.{TermAt}
 use Rattle.cells.specs.Cells.{View, Seen, env_of, number_at, last_at, kind_at, noted}
 use Rattle.rows.specs.Kept.{seen-kept, below_less, below_at, below-ext}
 use Rattle.rows.specs.Fields.{length-noted, noted-below, noted-number, noted-last, noted-kind}
 use Rattle.rows.specs.Pushed.{seen-noted}
-use Rattle.compiler.specs.Post.{Ready, Stands, Paid, Laid, Did}
+use Rattle.compiler.specs.Post.{Ready, Paid, Laid}
 
 -- ---- the state after a store
 

@@ -1,11 +1,10 @@
 -- The contracts of the functions that compile a piece of a form: the right of a Pipe, the end of a fold, a part of a string, an entry of an object. Asked for
 -- is SOME tree and SOME view, promised of EVERY one, as in Post. Assumes nothing.
-use Rattle.std.specs.Prelude.{ℕ, zero, suc, ◌+◌, ◌-◌, ◌*◌, ◌^◌, ◌≤◌, ◌<◌, ◌≡◌, Bool, true, false, cond, List, [], ◌∷◌, ◌++◌, eqb, ltb, length, get_or, take}
-use Rattle.std.proofs.Math.Option.{Option, none, some}
-use Rattle.tree.specs.Rose.{Roses, rnil, rcons, end_of, text_of, Row}
+use Rattle.std.specs.Prelude.{ℕ, suc, ◌+◌, ◌-◌, ◌*◌, ◌≤◌, ◌<◌, ◌≡◌, cond, List, [], ◌∷◌, ◌++◌, eqb, length}
+use Rattle.tree.specs.Rose.{rnil, rcons, end_of, text_of, Row}
 use Rattle.tree.specs.Tree.{Name, Term, Terms, ts_nil, ts_cons, OptTerm, Pattern, StrParts, StrPart, Format}
 use Rattle.tree.specs.Form.{f_terms, f_format, f_str_parts, f_str_part}
-use Rattle.rules.specs.Table.{Rec, Node, n_str, n_to_string, n_obj_single, Err}
+use Rattle.rules.specs.Table.{Rec, n_str, n_to_string, n_obj_single, Err}
 use Rattle.rules.specs.Tails.{Tail, empty}
 use Rattle.rules.specs.Rows.{Env, push_vars}
 use Rattle.rules.specs.Filters.{Top}

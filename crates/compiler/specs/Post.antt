@@ -1,25 +1,19 @@
 -- The contracts of the compiling functions: what they ask for, SOME tree and SOME view for which the rows are right, and what they promise, of EVERY one.
 -- Assumes nothing.
-use Rattle.std.specs.Prelude.{ℕ, zero, suc, ◌+◌, ◌-◌, ◌*◌, ◌^◌, ◌≤◌, ◌<◌, ◌≡◌, Bool, true, false, cond, ◌⊎◌, List, [], ◌∷◌, ◌++◌, map, eqb, ltb, length, get_or, take}
-use Rattle.std.proofs.Math.Option.{Option, none, some}
-use Rattle.fields.specs.Room.{overlay}
-use Rattle.tree.specs.Rose.{Rose, Roses, rnil, rcons, node, end_of, text_of, At, Row}
-use Rattle.tree.specs.Tree.{Name, Term, Terms, OptTerm, Branches, Defs, Def, Pattern, Patterns, ps_nil, ps_cons, PatEntries, pes_nil, pes_cons, p_var, p_arr, p_obj, Parts, Part, Bound, StrParts, StrPart, Entries, Format, Tree}
-use Rattle.tree.specs.Form.{f_term, f_terms, f_opt_term, f_branches, f_defs, f_names, f_pattern, f_patterns, f_pat_entries, f_parts, f_part, f_bound, f_str_parts, f_entries}
-use Rattle.rules.specs.Names.{Text}
-use Rattle.rules.specs.Table.{Rec, Node, Err, Pat, pat_var, pat_idx, Pats, pats_nil, pats_cons}
-use Rattle.rules.specs.Rows.{Env, count, level}
-use Rattle.rules.specs.Filters.{Top}
-use Rattle.rules.specs.Outs.{Out, slot, Made, arity}
-use Rattle.rules.specs.Listing.{node_bytes, rec_bytes, table_bytes, errs_bytes}
-use Rattle.rules.specs.Rules.{term, args, defs, body, defined, or_empty, pattern, elements, keyed, parts, part, bound, format_out, called, branches}
+use Rattle.std.specs.Prelude.{ℕ, suc, ◌+◌, ◌-◌, ◌*◌, ◌^◌, ◌≤◌, ◌<◌, ◌≡◌, ◌⊎◌, List, ◌∷◌, map, length, take}
+use Rattle.tree.specs.Rose.{Roses, rnil, rcons, end_of, Row}
+use Rattle.tree.specs.Tree.{Term, Terms, OptTerm, Branches, Defs, Def, Pattern, Patterns, PatEntries, Parts, Part, Bound, StrParts, Entries}
+use Rattle.tree.specs.Form.{f_term, f_terms, f_opt_term, f_branches, f_defs, f_patterns, f_pat_entries, f_parts, f_part, f_bound, f_str_parts, f_entries}
+use Rattle.rules.specs.Outs.{Out, slot, arity}
+use Rattle.rules.specs.Listing.{rec_bytes, table_bytes}
+use Rattle.rules.specs.Rules.{term, args, defs, body, defined, or_empty, pattern, elements, keyed, parts, part, bound, branches}
 use Rattle.compiler.specs.declared.Run.{Run}
 use Rattle.puts.specs.State.{num, off, ers, late, Put, Own}
-use Rattle.reads.specs.Bytes.{past, after, TermAt, PatternAt, DefAt}
+use Rattle.reads.specs.Bytes.{past, TermAt, PatternAt, DefAt}
 use Rattle.reads.specs.Widths.{pat_width, pats_width, keyed_width, part_width, parts_width}
 use Rattle.reads.specs.Parts.{NoHead}
 use Rattle.records.specs.Sums.{sizes, StringNotes, EntryNotes}
-use Rattle.cells.specs.Cells.{View, Seen, Based, env_of, row_at, number_at, last_at, kind_at, outer, Opened}
+use Rattle.cells.specs.Cells.{View, Seen, env_of, number_at, last_at, kind_at, Opened}
 use Rattle.cells.specs.Notes.{numbers_of, lasts_of, pairs_of, else_of, pairs_at, pair_count, pat_at, pats_at, keyed_at, notes_in, notes_all, notes_keyed, places_in, places_all, places_keyed, step_at, steps_at, bound_at, strings_of, entries_of, held, held_errs, string_nodes, entry_nodes}
 
 -- ---- asked for

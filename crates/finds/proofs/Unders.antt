@@ -3,7 +3,6 @@ use Prim.Native.Nat.{ℕ, ◌+◌, ◌-◌, ◌≤◌, ◌<◌}
 use native.Mathlib.Omega.{arith}
 use mathlib.Core.Path.{◌≡◌, refl, sym, ap, subst, ◌∙◌}
 use mathlib.Core.Bool.{Bool, true, false, ◌&&◌, ◌||◌}
-use mathlib.Core.Option.{some}
 use mathlib.Core.List.{List}
 use borrow.Author.Tests.{lt-ltb, le-ltb}
 use lib.Dec.{eqb, eqb→eq}
@@ -12,13 +11,10 @@ use Rattle.tree.specs.Rose.{rnil, rcons, end_of, text_of, At, Row}
 use Rattle.tree.specs.Tree.{Name, Term, Defs, ds_nil, ds_cons, Def, term_place, t_id, t_recurse, t_arr, t_neg, t_label, t_break, t_if_then_else, t_var, t_call, t_def, t_num, t_try_catch, t_fold, t_pipe, t_bin_op, t_path, t_str, t_obj}
 use Rattle.tree.specs.Form.{f_term, f_defs, f_def, f_names}
 use Rattle.rules.specs.Names.{Text, same}
-use Rattle.rules.specs.Rows.{count}
-use Rattle.rules.specs.Rules.{term}
 use Rattle.reads.specs.Bytes.{TermAt, DefAt, names_of, colons_of}
 use Rattle.reads.specs.Shapes.{UnderAt, DefIs, on-def, on-def-cons, on-def-nil, on-the-def, term_fits, row-tail, term-head, row-end}
-use Rattle.finds.specs.declared.Found as Hit
 use Rattle.finds.specs.Keys.{T-ext, eq-T, true-T}
-use Rattle.finds.specs.Under.{body_of, def_fits, declared_by, defined_by, own_call, under}
+use Rattle.finds.specs.Under.{body_of, def_fits, declared_by, defined_by, own_call}
 use Rattle.finds.specs.Wide.{Defines, Owns}
 
 -- ---- where the term behind definitions stands

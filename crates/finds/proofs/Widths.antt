@@ -21,7 +21,7 @@ use Rattle.rules.specs.Filters.{Top, Found, variable, meant, error_at}
 use Rattle.rules.specs.Outs.{arity, var_out}
 use Rattle.rules.specs.Listing.{rec_bytes}
 use Rattle.rules.specs.Rules.{term, args, called}
-use Rattle.reads.specs.Bytes.{TermAt, name_at, len_of, many}
+use Rattle.reads.specs.Bytes.{TermAt, name_at, many}
 use Rattle.reads.specs.Widths.{OwnWidth, call_width, num_width, fold_width, fold_kind, pat_width, entries_width}
 use Rattle.reads.specs.Lengths.{id-length, one-length, own-id, own-recurse, own-arr, own-neg, own-label, own-ite, own-num, own-try, own-fold, own-obj}
 use Rattle.reads.specs.Folds.{FoldOf}

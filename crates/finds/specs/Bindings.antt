@@ -13,7 +13,7 @@ use Rattle.tree.specs.Rose.{text_of}
 use Rattle.rules.specs.Names.{Text, same}
 use Rattle.rules.specs.Lists.{Every}
 use Rattle.rules.specs.Rows.{var, label, arg, filter, Env, count, find_var, find_label}
-use Rattle.rules.specs.Filters.{or_else, variable}
+use Rattle.rules.specs.Filters.{or_else}
 use Rattle.reads.specs.Bytes.{name_at}
 use Rattle.cells.specs.Cells.{View, outer, Good, Local, class_of, kind_at, arity_at, place_at, before_at, filter_at, row_at, rows_of, bound}
 use Rattle.finds.specs.Means.{first_of, Readable, HitIs}

@@ -4,7 +4,7 @@ use Rattle.std.proofs.Common.{arith, add-suc, add-zero, add_assoc, eq-or-lt_of_l
 use lib.Dec.{T, eqb, ltb, lt→ltb}
 use Rattle.rules.specs.Lists.{Member, Every}
 use Rattle.cells.specs.Cells.{kind_at, head_at, link_at, bound, bucket, Chain}
-use Rattle.finds.specs.Means.{matches, first_of}
+use Rattle.finds.specs.Means.{first_of}
 use Rattle.finds.specs.Keys.{true-T, T_true, eq-T}
 
 -- ---- one list after the other

@@ -1,5 +1,5 @@
 -- Names past the locals that other modules define: includes, imports, and names with `::`. Assumes nothing.
-use Rattle.std.specs.Prelude.{ℕ, zero, suc, ◌+◌, ◌-◌, ◌*◌, ◌≤◌, ◌<◌, ◌≡◌, refl, Bool, true, false, cond, ◌&&◌, List, [], ◌∷◌, ◌++◌, T, eqb, ltb, length, get_or, take, drop}
+use Rattle.std.specs.Prelude.{ℕ, zero, suc, ◌+◌, ◌*◌, ◌≤◌, ◌<◌, ◌≡◌, refl, Bool, true, false, cond, ◌&&◌, List, [], ◌∷◌, ◌++◌, T, eqb, ltb, length, get_or, take, drop}
 use Rattle.std.proofs.Common.{arith, sym, ap, subst, ◌∙◌, append_assoc, eqb-true, ltb-true, take-append-drop, drop-cons, get_or-take, get_or-drop}
 use Rattle.std.proofs.Math.Option.{Option, none, some, none-ne-some, some-injective}
 use Rattle.fields.specs.Number.{value}
@@ -11,7 +11,7 @@ use Rattle.tree.specs.Form.{f_name, f_number, f_numbers, f_import, f_imports}
 use Rattle.tree.specs.Numbers as numbers
 use Rattle.rules.specs.Names.{Text, same, plain, parted, longer, parting}
 use Rattle.rules.specs.Rows.{Filter}
-use Rattle.rules.specs.Filters.{Top, or_else, in_module, included, import_named, nothing}
+use Rattle.rules.specs.Filters.{Top, or_else, in_module, included, import_named}
 use Rattle.reads.specs.Bytes.{pair_at, colons_of, len_of}
 use Rattle.reads.specs.Parts.{row-rest, row_fits, row-leaf, row_ok, row-node, row-past, row_lt, row-end}
 use Rattle.finds.specs.Keys.{text-length, true-T, and_right}

@@ -12,7 +12,6 @@ use Rattle.tree.specs.Rose.{Roses, rnil, end_of, text_of, Row, row-le}
 use Rattle.tree.specs.Tree.{Term, Terms, Pattern, OptPattern, no_pattern, a_pattern, Parts, StrParts, Format, t_path, t_str, t_pipe, t_bin_op}
 use Rattle.tree.specs.Form.{f_parts, f_str_parts, f_format, f_terms}
 use Rattle.rules.specs.Outs.{arity}
-use Rattle.reads.specs.declared.width.Fold.{Fold}
 use Rattle.reads.specs.Bytes.{TermAt, PatternAt, is_tag, past, many}
 use Rattle.reads.specs.Widths.{OwnWidth, int_of, num_width, pat_width, op_width, parts_width, strings_width, fold_kind, fold_width}
 use Rattle.reads.specs.Shapes.{StrAt, FoldAt, on-path, on-str, on-fold, on-pipe, on-binop, operator-at, on-some-pattern, on-no-pattern, tag-yes, tag-no, terms-many}

@@ -1,7 +1,7 @@
 -- Tree bytes as the code reads them: fields one after the other, names, and what is taken of a name to compare it. Assumes nothing.
-use Rattle.std.specs.Prelude.{ℕ, zero, suc, ◌+◌, ◌-◌, ◌*◌, ◌/◌, ◌%◌, ◌≤◌, ◌≡◌, Bool, cond, ◌&&◌, List, [], ◌∷◌, eqb, leb, ltb, length, get_or, take, drop}
+use Rattle.std.specs.Prelude.{ℕ, zero, suc, ◌+◌, ◌-◌, ◌*◌, ◌/◌, ◌%◌, ◌≤◌, ◌≡◌, Bool, cond, ◌&&◌, List, [], ◌∷◌, eqb, leb, ltb, length, get_or}
 use Rattle.std.specs.Int.Bits.{bit_and, bit_xor}
-use Rattle.tree.specs.Rose.{Rose, Roses, rnil, rcons, end_of, text_of, At, Row}
+use Rattle.tree.specs.Rose.{Roses, rnil, rcons, end_of, text_of, At, Row}
 use Rattle.tree.specs.Tree.{Name, Term, Pattern, Def, term_place, pattern_place}
 use Rattle.tree.specs.Form.{f_term, f_pattern, f_def}
 

@@ -1,13 +1,13 @@
 -- From a byte to what stands there, below terms: patterns, parts of paths and strings, entries, bounds, operators. One law a constructor: where the byte
 -- at a place is the constructor's tag, a claim about what stands there has to be shown of that constructor alone, and where its members stand is known, each
 -- place as the code finds it. Assumes nothing.
-use Rattle.std.specs.Prelude.{ℕ, zero, suc, ◌+◌, ◌*◌, ◌≤◌, ◌<◌, ◌≡◌, refl, Bool, true, false, cond, length, get_or, take, drop}
-use Rattle.std.proofs.Common.{arith, sym, ap, ap₂, ◌∙◌}
+use Rattle.std.specs.Prelude.{ℕ, ◌+◌, ◌≤◌, ◌<◌, ◌≡◌, refl, true, length, get_or}
+use Rattle.std.proofs.Common.{arith, sym, ap₂, ◌∙◌}
 use Rattle.std.proofs.Math.Path.{subst}
-use mathlib.Core.List.{List, [], ◌∷◌}
+use mathlib.Core.List.{List}
 use Rattle.tree.specs.Leaf.{shape, leaf_ok}
 use Rattle.tree.specs.Rose.{Rose, Roses, leaf, node, rnil, rcons, Field, end_of, text_of, tag_of, place_of, At, Row, row-le, tagged, inside}
-use Rattle.tree.specs.Tree.{Name, Number, Mark, Format, Term, OptTerm, Pattern, OptPattern, Patterns, PatEntries, Parts, Part, Bound, StrParts, StrPart, Entries, term_place, pattern_place}
+use Rattle.tree.specs.Tree.{Number, Mark, Format, Term, OptTerm, Pattern, OptPattern, Patterns, PatEntries, Parts, Part, Bound, StrParts, StrPart, Entries}
 use Rattle.tree.specs.Tree.{t_id, t_recurse, t_arr, t_neg, t_label, t_break, t_if_then_else, t_var, t_call, t_def, t_num, t_try_catch, t_fold, t_pipe, t_bin_op, t_path, t_str, t_obj}
 use Rattle.tree.specs.Tree.{no_mark, a_mark, no_format, a_format, no_term, a_term, p_var, p_arr, p_obj, no_pattern, a_pattern, ps_nil, ps_cons, pes_nil, pes_cons}
 use Rattle.tree.specs.Tree.{parts_nil, parts_cons, part_index, part_range, without_bound, a_bound, s_nil, s_cons, s_text, s_char, s_term, es_nil, es_cons}

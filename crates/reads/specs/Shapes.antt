@@ -1,15 +1,15 @@
 -- From the byte at a place to what stands there: of a term of each tag, its constructor with its own place and name, and where its members stand, by the
 -- places that the code computes. For each form a record of what is known of the members, and an eliminator `on-..` for any motive P. Rows of members
 -- likewise: what the next one is, or that there is none. Assumes nothing.
-use Rattle.std.specs.Prelude.{ℕ, zero, suc, ◌+◌, ◌-◌, ◌*◌, ◌≤◌, ◌<◌, ◌≡◌, refl, Bool, true, false, cond, ◌&&◌, ◌⊎◌, eqb, leb, ltb, length, get_or, take, drop}
+use Rattle.std.specs.Prelude.{ℕ, zero, suc, ◌+◌, ◌-◌, ◌*◌, ◌≤◌, ◌<◌, ◌≡◌, refl, Bool, true, false, cond, ◌&&◌, ◌⊎◌, eqb, ltb, length, get_or, drop}
 use Rattle.std.proofs.Common.{arith, sym, ap, ap₂, ◌∙◌, inl, inr, length-drop, length-take-le, get_or-take, get_or-drop, eqb-true, ltb-true, lt-ltb, eq-eqb, add-zero}
 use Rattle.std.proofs.Math.Path.{subst}
 use mathlib.Core.List.{List, [], ◌∷◌}
-use Rattle.tree.specs.Rose.{Rose, Roses, leaf, node, rnil, rcons, end_of, text_of, Field, At, Row, tag_of, place_of, row-le, tagged, inside}
+use Rattle.tree.specs.Rose.{Rose, Roses, leaf, node, rnil, rcons, end_of, text_of, At, Row, tag_of, row-le, tagged, inside}
 use Rattle.tree.specs.Leaf.{shape, leaf_ok, is_operator, both}
 use Rattle.tree.specs.Table.{shapes}
 use Rattle.tree.proofs.Match.{not-both}
-use Rattle.tree.specs.Tree.{Name, Number, Mark, Format, Term, OptTerm, Terms, Branches, Defs, Def, Pattern, OptPattern, Patterns, PatEntries, Parts, Part, Bound, StrParts, StrPart, Entries, term_place, pattern_place}
+use Rattle.tree.specs.Tree.{Name, Mark, Format, Term, OptTerm, Terms, Branches, Defs, Def, Pattern, OptPattern, Patterns, PatEntries, Parts, Part, Bound, StrParts, StrPart, Entries, term_place}
 use Rattle.tree.specs.Tree.{t_id, t_recurse, t_arr, t_neg, t_label, t_break, t_if_then_else, t_var, t_call, t_def, t_num, t_try_catch, t_fold, t_pipe, t_bin_op, t_path, t_str, t_obj}
 use Rattle.tree.specs.Tree.{no_mark, a_mark, no_format, a_format, no_term, a_term, ts_nil, ts_cons, b_none, b_else, b_pair, ds_nil, ds_cons, def, p_var, p_arr, p_obj, no_pattern, a_pattern, ps_nil, ps_cons, pes_nil, pes_cons}
 use Rattle.tree.specs.Tree.{parts_nil, parts_cons, part_index, part_range, without_bound, a_bound, s_nil, s_cons, s_text, s_char, s_term, es_nil, es_cons}

@@ -1,28 +1,25 @@
 -- Calls: the loop over the arguments, the records of natives and definitions, and what a call's name means against what is put. Assumes nothing.
-use Prim.Native.Nat.{ℕ, zero, suc, ◌+◌, ◌-◌, ◌*◌, ◌^◌, ◌≤◌, ◌<◌}
+use Prim.Native.Nat.{ℕ, zero, suc, ◌+◌, ◌-◌, ◌*◌, ◌≤◌, ◌<◌}
 use native.Mathlib.Omega.{arith}
 use mathlib.Core.Path.{◌≡◌, refl, sym, ap, ap₂, subst, ◌∙◌}
 use mathlib.Core.Logic.{◌⊎◌, inl, inr}
-use mathlib.Core.Bool.{Bool, true, false, cond, not}
+use mathlib.Core.Bool.{Bool, true, false, not}
 use mathlib.Core.List.{List, [], ◌∷◌, ◌++◌, append_assoc}
-use lib.Dec.{eqb}
 use lib.ListN.{length, get_or, set, length-append}
-use borrow.Author.Tests.{ne_eqb}
 use Rattle.fields.specs.Number.{number}
 use Rattle.fields.specs.Field.{field}
 use Rattle.fields.specs.Room.{overlay, overlay-none}
 use Rattle.puts.specs.Runs.{run-then, byte-then, then-byte}
 use Rattle.tree.specs.Rose.{end_of, text_of}
-use Rattle.tree.specs.Tree.{Name}
 use Rattle.rules.specs.Names.{is_var}
-use Rattle.rules.specs.Table.{Arg, Kind, kind_number, Err, n_native, n_call_def}
+use Rattle.rules.specs.Table.{Arg, Kind, Err, n_native, n_call_def}
 use Rattle.rules.specs.Listing.{flag, arg_kind, arg_list, node_bytes, rec_bytes}
-use Rattle.rules.specs.Tails.{Tail, Fun, parent, sibling, returned, bit, subset, local_call, module_kind}
+use Rattle.rules.specs.Tails.{parent, sibling, returned, bit, subset, local_call, module_kind}
 use Rattle.rules.specs.Returns.{Lone}
 use Rattle.rules.specs.Rows.{Filter}
 use Rattle.rules.specs.Filters.{Found, nothing, argument, local, of_module, of_native}
-use Rattle.rules.specs.Outs.{Out, Made, binds, call_out}
-use Rattle.reads.specs.Bytes.{name_at, names_of, Fields}
+use Rattle.rules.specs.Outs.{Made, binds, call_out}
+use Rattle.reads.specs.Bytes.{names_of, Fields}
 use Rattle.cells.specs.Cells.{number_at, kind_at, arity_at, place_at, before_at, level_at, last_at, filter_at}
 use Rattle.cells.specs.Notes.{numbers_of}
 use Rattle.finds.specs.declared.Found as Hit

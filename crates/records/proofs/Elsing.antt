@@ -1,15 +1,15 @@
 -- The loop of `elses`: the pairs from row j on have their records, the last one first. Assumes nothing.
-use Prim.Native.Nat.{ℕ, zero, suc, ◌+◌, ◌-◌, ◌*◌, ◌^◌, ◌≤◌, ◌<◌}
+use Prim.Native.Nat.{ℕ, zero, suc, ◌+◌, ◌-◌, ◌*◌, ◌≤◌, ◌<◌}
 use native.Mathlib.Omega.{arith}
-use mathlib.Core.Path.{◌≡◌, refl, sym, ap, ap₂, subst, ◌∙◌}
+use mathlib.Core.Path.{◌≡◌, refl, sym, ap, ap₂, ◌∙◌}
 use mathlib.Core.List.{List, [], ◌∷◌, ◌++◌, append-nil}
-use lib.ListN.{length, get_or, set, length-set, length-append}
-use Rattle.fields.specs.Number.{number, length-number}
-use Rattle.fields.specs.Field.{field, length-field}
+use lib.ListN.{length, set, length-set, length-append}
+use Rattle.fields.specs.Number.{number}
+use Rattle.fields.specs.Field.{field}
 use Rattle.fields.specs.Room.{overlay, overlay-append, overlay-none, length-overlay}
-use Rattle.rules.specs.Table.{Rec, Node, n_ite}
+use Rattle.rules.specs.Table.{Rec, n_ite}
 use Rattle.rules.specs.Listing.{node_bytes, rec_bytes, table_bytes}
-use Rattle.puts.specs.State.{num, off, ers}
+use Rattle.puts.specs.State.{num, off}
 use Rattle.puts.specs.Rooms.{table-append}
 use Rattle.cells.specs.Cells.{number_at, last_at}
 use Rattle.cells.specs.Notes.{Pair, elses_of, pairs_at}

@@ -1,19 +1,19 @@
 -- Records that hold a pattern: a Pipe, a fold. Assumes nothing.
-use Prim.Native.Nat.{ℕ, ◌+◌, ◌-◌, ◌^◌, ◌≤◌, ◌<◌}
+use Prim.Native.Nat.{ℕ, ◌+◌, ◌-◌, ◌≤◌, ◌<◌}
 use native.Mathlib.Omega.{arith}
-use mathlib.Core.Path.{◌≡◌, refl, sym, ap, ap₂, ◌∙◌}
+use mathlib.Core.Path.{◌≡◌, refl, ap, ◌∙◌}
 use mathlib.Core.Bool.{Bool, true, false, cond}
 use mathlib.Core.List.{List, [], ◌∷◌, ◌++◌, append_assoc}
 use mathlib.Core.Option.{some}
 use lib.Dec.{eqb}
 use lib.ListN.{length, length-append}
-use borrow.Author.Tests.{eqb-true, eqb-false, eq-eqb, ne_eqb}
+use borrow.Author.Tests.{eqb-true, eq-eqb, ne_eqb}
 use Rattle.fields.specs.Number.{number}
 use Rattle.fields.specs.Field.{field}
 use Rattle.fields.specs.Room.{overlay}
 use Rattle.puts.specs.Runs.{run-then}
 use Rattle.tree.specs.Tree.{Pattern}
-use Rattle.rules.specs.Table.{n_pipe, n_fold}
+use Rattle.rules.specs.Table.{n_pipe}
 use Rattle.rules.specs.Listing.{pat_bytes, opt_pat_bytes, fold_bytes, node_bytes}
 use Rattle.reads.specs.Widths.{pat_width, fold_width}
 use Rattle.cells.specs.Notes.{pat_at}

@@ -1,15 +1,14 @@
 -- How a definition is called, by the kind of its row. Assumes nothing.
-use Prim.Native.Nat.{ℕ, zero, suc, ◌+◌, ◌*◌, ◌^◌, ◌≤◌, ◌<◌}
+use Prim.Native.Nat.{ℕ, zero, suc, ◌*◌, ◌^◌, ◌<◌}
 use native.Mathlib.Omega.{arith}
-use mathlib.Core.Path.{◌≡◌, refl, sym, ap, subst, ◌∙◌}
+use mathlib.Core.Path.{◌≡◌, refl, sym, ◌∙◌}
 use mathlib.Core.Logic.{◌⊎◌, inl, inr}
-use mathlib.Core.Bool.{Bool, true, false, cond, not}
-use mathlib.Core.List.{List}
+use mathlib.Core.Bool.{Bool, true, false, cond}
 use lib.Bits.{bit_and, and_zero_r}
-use lib.Dec.{eqb, ltb}
+use lib.Dec.{ltb}
 use borrow.Author.Tests.{eqb-true, ltb-true, ne_eqb}
 use Rattle.rules.specs.Table.{kind_number}
-use Rattle.rules.specs.Tails.{Tail, empty, bit, has, subset, sibling, parent, local_call, module_kind}
+use Rattle.rules.specs.Tails.{bit, subset, sibling, parent, local_call, module_kind}
 use Rattle.rules.specs.Sets.{digit, digit-small, and-bit, has-empty}
 use Rattle.records.specs.Calls.{jump_of}
 

@@ -1,30 +1,30 @@
 -- Paths: a range's bounds and a part's mark as the code finds them, and the loop over the parts. Assumes nothing.
-use Prim.Native.Nat.{ℕ, zero, suc, ◌+◌, ◌-◌, ◌*◌, ◌^◌, ◌≤◌, ◌<◌}
+use Prim.Native.Nat.{ℕ, suc, ◌+◌, ◌-◌, ◌*◌, ◌^◌, ◌≤◌, ◌<◌}
 use native.Mathlib.Omega.{arith}
-use mathlib.Core.Path.{◌≡◌, refl, sym, ap, ap₂, subst, ◌∙◌}
-use mathlib.Core.Bool.{Bool, true, false, cond}
+use mathlib.Core.Path.{◌≡◌, refl, sym, ap, ap₂, ◌∙◌}
+use mathlib.Core.Bool.{Bool, true, false}
 use mathlib.Core.List.{List, [], ◌∷◌, ◌++◌, append_assoc}
-use mathlib.Core.Option.{Option, none, some}
-use lib.Dec.{eqb, ltb}
+use mathlib.Core.Option.{Option}
+use lib.Dec.{ltb}
 use lib.ListN.{length, get_or, set, length-append}
 use borrow.Author.Tests.{lt-ltb, le-ltb}
-use Rattle.fields.specs.Number.{number, length-number}
+use Rattle.fields.specs.Number.{number}
 use Rattle.fields.specs.Field.{field}
-use Rattle.fields.specs.Room.{overlay, overlay-none, overlay-one, overlay-append}
+use Rattle.fields.specs.Room.{overlay, overlay-none}
 use Rattle.puts.specs.Runs.{run-then, byte-then, then-byte}
-use Rattle.tree.specs.Rose.{Rose, Roses, rnil, rcons, end_of, tag_of, Row}
-use Rattle.tree.specs.Tree.{Term, Mark, no_mark, a_mark, Part, part_index, part_range, Bound, without_bound, a_bound, Parts, parts_nil, parts_cons}
+use Rattle.tree.specs.Rose.{Roses, rnil, rcons, end_of, Row}
+use Rattle.tree.specs.Tree.{Mark, no_mark, a_mark, Part, part_index, part_range, Bound, without_bound, a_bound, Parts, parts_nil, parts_cons}
 use Rattle.tree.specs.Form.{f_term, f_mark, f_bound, f_part, f_parts}
-use Rattle.rules.specs.Table.{Step, index, range, n_path}
+use Rattle.rules.specs.Table.{Step, n_path}
 use Rattle.rules.specs.Listing.{flag, opt_number, step_bytes, steps_bytes, node_bytes}
 use Rattle.rules.specs.Outs.{is_optional}
 use Rattle.reads.specs.Bytes.{is_tag, past}
 use Rattle.reads.specs.Widths.{bound_width, part_width, parts_width}
-use Rattle.reads.specs.Shapes.{head-fits, term_fits, tag-yes, tag-no, PartAt, on-parts-cons, on-parts-nil, IndexAt, RangeAt, on-index, on-range, BoundAt, NoHead, no-mark, no_bound, on-bound, on-no-bound}
-use Rattle.reads.specs.Parts.{row-tag, row_lt}
+use Rattle.reads.specs.Shapes.{head-fits, term_fits, tag-yes, tag-no, PartAt, on-parts-cons, on-parts-nil, on-index, on-range, NoHead, no-mark, no_bound, on-bound, on-no-bound}
+use Rattle.reads.specs.Parts.{row-tag}
 use Rattle.cells.specs.Cells.{number_at, last_at}
 use Rattle.cells.specs.Notes.{bound_at, step_at, steps_at}
-use Rattle.records.specs.Steps.{given, Puts, PartPut, PartsReady, PathReady}
+use Rattle.records.specs.Steps.{given, Puts, PartPut, PartsReady}
 
 -- ---- what the code tells of a bound
 

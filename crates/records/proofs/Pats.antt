@@ -1,18 +1,15 @@
 -- The members of a pattern in a row, as the loop of put_pattern meets them. Assumes nothing.
-use Prim.Native.Nat.{ℕ, zero, suc, ◌+◌, ◌-◌, ◌*◌, ◌^◌, ◌≤◌, ◌<◌}
+use Prim.Native.Nat.{ℕ, suc, ◌+◌, ◌*◌, ◌^◌, ◌≤◌, ◌<◌}
 use native.Mathlib.Omega.{arith}
 use mathlib.Core.Path.{◌≡◌, refl, sym, ap, ap₂, subst, ◌∙◌}
-use mathlib.Core.Bool.{Bool, true, false, cond}
-use mathlib.Core.List.{List, [], ◌∷◌, ◌++◌, append_assoc}
-use lib.Dec.{eqb}
+use mathlib.Core.List.{List, [], ◌∷◌, ◌++◌}
 use lib.ListN.{length, get_or, set, length-append}
-use Rattle.fields.specs.Number.{number, length-number}
+use Rattle.fields.specs.Number.{number}
 use Rattle.fields.specs.Room.{overlay, overlay-append, overlay-none, overlay-one}
-use Rattle.tree.specs.Rose.{Roses, rnil, rcons, end_of, At, Row, tagged, inside}
-use Rattle.tree.specs.Tree.{Pattern, p_var, p_arr, p_obj, Patterns, ps_nil, ps_cons, PatEntries, pes_nil, pes_cons, pattern_place}
+use Rattle.tree.specs.Rose.{Roses, rnil, rcons, end_of, At, Row, inside}
+use Rattle.tree.specs.Tree.{Pattern, p_var, p_arr, p_obj, Patterns, ps_nil, ps_cons, PatEntries, pes_nil, pes_cons}
 use Rattle.tree.specs.Form.{f_pattern, f_patterns, f_pat_entries, f_term}
 use Rattle.tree.proofs.Form.{pattern-place}
-use Rattle.rules.specs.Table.{Pat, pat_var, pat_idx, Pats, pats_nil, pats_cons}
 use Rattle.rules.specs.Listing.{pat_count, pat_bytes, pats_bytes}
 use Rattle.reads.specs.Bytes.{PatternAt, sub_pattern, many}
 use Rattle.reads.specs.Widths.{pat_width, pats_width, keyed_width}

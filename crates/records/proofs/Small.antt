@@ -1,22 +1,21 @@
 -- Operators, bounds, foldings, the path of a lone key, and errors: small records, each written out. Assumes nothing.
-use Prim.Native.Nat.{ℕ, ◌+◌, ◌%◌, ◌≤◌, ◌<◌}
+use Prim.Native.Nat.{ℕ, ◌+◌, ◌≤◌, ◌<◌}
 use native.Mathlib.Omega.{arith}
-use mathlib.Core.Path.{◌≡◌, refl, sym, ap, ap₂, ◌∙◌}
+use mathlib.Core.Path.{◌≡◌, refl, sym, ap, ◌∙◌}
 use mathlib.Core.Bool.{Bool, true, false, cond}
-use mathlib.Core.List.{List, [], ◌∷◌, ◌++◌, append-nil}
-use mathlib.Core.Option.{none, some}
+use mathlib.Core.List.{List, [], ◌∷◌, ◌++◌}
 use lib.Dec.{eqb, ltb}
-use lib.ListN.{length, get_or, set}
+use lib.ListN.{get_or, set}
 use borrow.Author.Tests.{eqb-true, eqb-false, lt-ltb, le-ltb, eq-eqb, ne_eqb}
 use Rattle.fields.specs.Number.{number}
 use Rattle.fields.specs.Field.{field}
 use Rattle.fields.specs.Room.{overlay, overlay-one, overlay-none}
 use Rattle.puts.specs.State.{ers}
 use Rattle.puts.specs.Runs.{run-then, byte-then, then-byte}
-use Rattle.rules.specs.Table.{n_path, index, u_mod, u_filter, reduce, foreach}
-use Rattle.rules.specs.Listing.{node_bytes, fold_bytes, opt_number, step_bytes, steps_bytes, errs_bytes}
+use Rattle.rules.specs.Table.{n_path, index}
+use Rattle.rules.specs.Listing.{node_bytes, fold_bytes, opt_number, step_bytes, steps_bytes}
 use Rattle.finds.specs.declared.Found as Hit
-use Rattle.records.specs.Operators.{op_tag, op_choice}
+use Rattle.records.specs.Operators.{op_tag}
 use Rattle.records.specs.Patterns.{folding_of}
 use Rattle.records.specs.Steps.{given, Puts}
 use Rattle.records.specs.Calls.{lost_errs, Failed}

@@ -1,9 +1,9 @@
 -- The parts of a string, and the summand of a row. Assumes nothing.
-use Prim.Native.Nat.{ℕ, zero, suc, ◌+◌, ◌-◌, ◌*◌, ◌^◌, ◌≤◌, ◌<◌}
+use Prim.Native.Nat.{ℕ, ◌+◌, ◌-◌, ◌*◌, ◌^◌, ◌≤◌, ◌<◌}
 use native.Mathlib.Omega.{arith}
-use mathlib.Core.Path.{◌≡◌, refl, sym, ap, ap₂, subst, ◌∙◌}
-use mathlib.Core.Logic.{◌⊎◌, inl, inr}
-use mathlib.Core.Bool.{Bool, true, false, cond}
+use mathlib.Core.Path.{◌≡◌, refl, sym, ap, ◌∙◌}
+use mathlib.Core.Logic.{inl, inr}
+use mathlib.Core.Bool.{Bool, true, false}
 use mathlib.Core.List.{List, [], ◌∷◌, ◌++◌}
 use lib.Dec.{eqb}
 use lib.ListN.{length, get_or, take, drop}
@@ -17,11 +17,11 @@ use Rattle.text.specs.Utf8.{utf8, is_scalar}
 use Rattle.tree.specs.Rose.{rnil, end_of, text_of}
 use Rattle.tree.specs.Table.{shapes}
 use Rattle.tree.specs.Leaf.{shape, leaf_ok, both}
-use Rattle.tree.specs.Tree.{StrPart, s_text, s_char, s_term}
+use Rattle.tree.specs.Tree.{StrPart}
 use Rattle.tree.specs.Form.{f_str_part}
-use Rattle.rules.specs.Table.{Node, n_str, n_pipe, n_obj_single}
+use Rattle.rules.specs.Table.{Node}
 use Rattle.rules.specs.Listing.{node_bytes, opt_pat_bytes}
-use Rattle.reads.specs.Bytes.{four_of, name_at}
+use Rattle.reads.specs.Bytes.{four_of}
 use Rattle.reads.specs.Shapes.{head-fits, text-length, LeafAt, StrPartAt, on-text-part, on-char-part, on-term-part}
 use Rattle.cells.specs.Cells.{number_at, last_at, kind_at}
 use Rattle.cells.specs.Notes.{string_node}

@@ -9,13 +9,13 @@ use lib.ListN.{length, get_or, set, drop, length-set, length-append, length-drop
 use lib.Seq.{drop-cons}
 use Rattle.fields.specs.Number.{number}
 use Rattle.fields.specs.Field.{field}
-use Rattle.fields.specs.Room.{overlay, overlay-none, length-overlay}
+use Rattle.fields.specs.Room.{overlay, overlay-none}
 use Rattle.puts.specs.Runs.{run-then}
 use Rattle.puts.specs.Rooms.{table-append}
 use Rattle.puts.specs.State.{num, off, ers, late, spot_of, next_of}
 use Rattle.rules.specs.Table.{Rec, Node, n_id, n_math}
-use Rattle.rules.specs.Listing.{node_bytes, rec_bytes, table_bytes}
-use Rattle.cells.specs.Notes.{Summed, summed}
+use Rattle.rules.specs.Listing.{node_bytes, table_bytes}
+use Rattle.cells.specs.Notes.{summed}
 use Rattle.records.specs.Elses.{two-stored}
 use Rattle.records.specs.Steps.{Puts}
 use Rattle.records.specs.Sums.{SummandIs, Summands, sizes, SumReady, OwnReady, SumsPut, SumPut}

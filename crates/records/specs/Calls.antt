@@ -1,22 +1,22 @@
 -- Calls: what is put for one by what its name means, and the error where it means nothing. Assumes nothing.
-use Rattle.std.specs.Prelude.{ℕ, zero, suc, ◌+◌, ◌-◌, ◌*◌, ◌^◌, ◌≤◌, ◌<◌, ◌≡◌, refl, ◌⊎◌, Bool, true, false, cond, List, [], ◌∷◌, ◌++◌, eqb, length, get_or, set}
-use Rattle.std.proofs.Common.{arith, sym, ap, ap₂, subst, ◌∙◌, inl, inr, append-nil}
+use Rattle.std.specs.Prelude.{ℕ, ◌+◌, ◌*◌, ◌^◌, ◌≤◌, ◌<◌, ◌≡◌, ◌⊎◌, true, cond, List, [], ◌∷◌, ◌++◌, eqb, length, get_or, set}
+use Rattle.std.proofs.Common.{arith, sym, ap, ◌∙◌, inl, inr, append-nil}
 use Rattle.fields.specs.Number.{number}
 use Rattle.fields.specs.Field.{field}
 use Rattle.fields.specs.Room.{overlay}
 use Rattle.tree.specs.Rose.{end_of}
-use Rattle.rules.specs.Table.{Arg, Node, n_call_def, Kind, kind_number, Undefined, u_mod, u_var, u_label, u_filter, Err}
+use Rattle.rules.specs.Table.{Arg, u_mod, u_filter, Err}
 use Rattle.rules.specs.Listing.{arg_list, rec_bytes, errs_bytes}
-use Rattle.rules.specs.Tails.{Tail, empty, bit, subset, Fun, parent, sibling, Call, local_call, module_kind}
+use Rattle.rules.specs.Tails.{Tail, empty, bit, subset, parent, sibling, Call, local_call, module_kind}
 use Rattle.rules.specs.Returns.{Lone}
 use Rattle.rules.specs.Filters.{Found, nothing, argument, local, of_module, of_native}
-use Rattle.rules.specs.Outs.{Out, Made, binds, call_out}
+use Rattle.rules.specs.Outs.{Made, binds, call_out}
 use Rattle.puts.specs.State.{ers}
 use Rattle.reads.specs.Bytes.{names_of, Fields}
-use Rattle.cells.specs.Cells.{kind_at, arity_at, place_at, before_at, level_at, last_at}
+use Rattle.cells.specs.Cells.{kind_at, place_at, before_at, level_at, last_at}
 use Rattle.cells.specs.Notes.{numbers_of}
 use Rattle.finds.specs.declared.Found as Hit
-use Rattle.finds.specs.Means.{Readable, FoundIs, undefined_kind}
+use Rattle.finds.specs.Means.{FoundIs, undefined_kind}
 
 -- the arguments whose notes are the a rows from k on, as the parameters behind the name of row j take them
 abbrev pub args_at : List ℕ → List ℕ → ℕ → ℕ → ℕ → List Arg

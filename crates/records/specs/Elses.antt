@@ -1,25 +1,25 @@
 -- Conditionals: the elses' records, from the last pair back, put together with the pairs and the last else into what the rules make of a conditional.
 -- Assumes nothing.
-use Prim.Native.Nat.{ℕ, zero, suc, ◌+◌, ◌-◌, ◌*◌, ◌^◌, ◌≤◌, ◌<◌}
-use Rattle.std.proofs.Common.{arith, sym, subst, ◌∙◌, eq-eqb, ne_eqb, length-set}
-use Rattle.std.specs.Prelude.{◌≡◌, refl, get_or, set}
+use Prim.Native.Nat.{ℕ, suc, ◌+◌, ◌<◌}
+use Rattle.std.proofs.Common.{arith, sym, subst, ◌∙◌, ne_eqb, length-set}
+use Rattle.std.specs.Prelude.{◌≡◌, refl, set}
 use Rattle.std.proofs.Math.Path.{ap, ap₂}
-use mathlib.Core.List.{List, [], ◌∷◌, ◌++◌, append_assoc, append-nil}
+use mathlib.Core.List.{List, [], ◌∷◌, ◌++◌, append_assoc}
 use Rattle.std.proofs.Math.ListN.{length, length-append}
 use Rattle.std.specs.Int.Bits.{bit_or, or_zero_r}
-use Rattle.rules.specs.Sets.{digit, digit_or, same_digits}
+use Rattle.rules.specs.Sets.{digit_or, same_digits}
 use Rattle.fields.specs.Room.{overlay, overlay-append, overlay-out, length-overlay}
 use Rattle.tree.specs.Tree.{Term, Branches, b_none, b_else, b_pair}
-use Rattle.rules.specs.Table.{Rec, Node, n_ite, Err}
-use Rattle.rules.specs.Listing.{rec_bytes, table_bytes, errs_bytes}
+use Rattle.rules.specs.Table.{Rec, n_ite, Err}
+use Rattle.rules.specs.Listing.{rec_bytes, table_bytes}
 use Rattle.rules.specs.Tails.{Tail, empty, union}
 use Rattle.rules.specs.Rows.{Env}
 use Rattle.rules.specs.Filters.{Top}
-use Rattle.rules.specs.Outs.{Out, slot, size, node, ite_out}
+use Rattle.rules.specs.Outs.{Out, slot, size, ite_out}
 use Rattle.rules.specs.Rules.{term, branches}
 use Rattle.puts.specs.State.{num, off, ers, late, start_of, spot_of, next_of, members_at, members_end, Put, Own}
 use Rattle.puts.specs.Rooms.{table-append}
-use Rattle.cells.specs.Notes.{Pair, Pairs, pairs_of, else_of, elses_of, pairs_at}
+use Rattle.cells.specs.Notes.{Pair, Pairs, pairs_of, else_of, elses_of}
 
 -- ---- what `elses` leaves: the records of the pairs but the first, the state, and the number of the first pair's else
 

@@ -1,5 +1,5 @@
 -- Patterns within records: what is put for one, by the notes that its patterns have. Assumes nothing.
-use Rattle.std.specs.Prelude.{ℕ, zero, suc, ◌+◌, ◌-◌, ◌*◌, ◌^◌, ◌≤◌, ◌<◌, ◌≡◌, cond, List, [], ◌∷◌, eqb, length}
+use Rattle.std.specs.Prelude.{ℕ, ◌+◌, ◌*◌, ◌^◌, ◌≤◌, ◌<◌, ◌≡◌, cond, List, eqb, length}
 use Rattle.std.proofs.Math.Option.{none, some}
 use Rattle.fields.specs.Room.{overlay}
 use Rattle.tree.specs.Tree.{Pattern}

@@ -1,11 +1,11 @@
 -- Paths: what is put for a bound, a part, the parts of a path. Assumes nothing.
-use Rattle.std.specs.Prelude.{ℕ, zero, suc, ◌+◌, ◌-◌, ◌*◌, ◌^◌, ◌≤◌, ◌<◌, ◌≡◌, Bool, true, false, List, [], ◌∷◌, length}
+use Rattle.std.specs.Prelude.{ℕ, ◌+◌, ◌*◌, ◌^◌, ◌≤◌, ◌<◌, ◌≡◌, Bool, true, false, List, length}
 use Rattle.std.proofs.Math.Option.{Option, none, some}
 use Rattle.fields.specs.Room.{overlay}
 use Rattle.tree.specs.Rose.{rnil, Row}
 use Rattle.tree.specs.Tree.{Part, Parts}
 use Rattle.tree.specs.Form.{f_parts}
-use Rattle.rules.specs.Listing.{opt_number, step_bytes, steps_bytes}
+use Rattle.rules.specs.Listing.{step_bytes}
 use Rattle.reads.specs.Widths.{parts_width}
 use Rattle.reads.specs.Shapes.{PartAt}
 use Rattle.cells.specs.Notes.{step_at, steps_at}

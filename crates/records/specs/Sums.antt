@@ -1,15 +1,14 @@
 -- Sums: what is put for the parts of a string and the entries of an object, by their notes. Assumes nothing.
-use Rattle.std.specs.Prelude.{ℕ, zero, suc, ◌+◌, ◌-◌, ◌*◌, ◌^◌, ◌≤◌, ◌<◌, ◌≡◌, refl, ◌⊎◌, List, [], ◌∷◌, length, set}
-use Rattle.std.proofs.Common.{arith, ap, inl, inr}
+use Rattle.std.specs.Prelude.{ℕ, suc, ◌+◌, ◌*◌, ◌^◌, ◌≤◌, ◌<◌, ◌≡◌, refl, ◌⊎◌, List, [], ◌∷◌, length, set}
+use Rattle.std.proofs.Common.{arith, inl, inr}
 use Rattle.fields.specs.Room.{overlay}
-use Rattle.fields.specs.Field.{field}
 use Rattle.tree.specs.Tree.{StrPart, StrParts, s_nil, s_cons, Entries, es_nil, es_cons}
 use Rattle.rules.specs.Table.{Node, n_id, n_obj_single}
 use Rattle.rules.specs.Listing.{node_bytes, table_bytes}
 use Rattle.puts.specs.State.{num, off, spot_of, next_of}
 use Rattle.reads.specs.Shapes.{StrPartAt}
 use Rattle.cells.specs.Cells.{number_at, last_at, kind_at}
-use Rattle.cells.specs.Notes.{string_node, string_nodes, entry_nodes, Summed, summed}
+use Rattle.cells.specs.Notes.{string_node, string_nodes, entry_nodes, summed}
 
 -- what the note of row j is for: an entry of an object, or the part of a string whose place it keeps, the format having the number f
 abbrev pub SummandIs : List ℕ → List ℕ → ℕ → ℕ → Node → Type 0

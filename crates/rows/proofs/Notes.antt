@@ -1,5 +1,5 @@
 -- Notes that become the rows of variables. Assumes nothing.
-use Prim.Native.Nat.{ℕ, zero, suc, ◌+◌, ◌-◌, ◌*◌, ◌/◌, ◌%◌, ◌≤◌, ◌<◌}
+use Prim.Native.Nat.{ℕ, suc, ◌+◌, ◌-◌, ◌*◌, ◌/◌, ◌%◌, ◌≤◌, ◌<◌}
 use native.Mathlib.Omega.{arith}
 use mathlib.Core.Path.{◌≡◌, refl, sym, ap, ap₂, subst, ◌∙◌}
 use mathlib.Core.Bool.{Bool, true, false, cond}
@@ -7,14 +7,14 @@ use mathlib.Core.List.{List, [], ◌∷◌, ◌++◌}
 use lib.Dec.{eqb}
 use lib.ListN.{length, get_or}
 use borrow.Author.Tests.{eqb-true, eqb-false, eq-eqb, ne_eqb}
-use Rattle.tree.specs.Rose.{Row, rnil, rcons, At, end_of, text_of}
-use Rattle.tree.specs.Tree.{Name, Pattern, p_var, p_arr, p_obj, Patterns, ps_nil, ps_cons, PatEntries, pes_nil, pes_cons}
+use Rattle.tree.specs.Rose.{Row, rnil, At, end_of, text_of}
+use Rattle.tree.specs.Tree.{Pattern, p_var, p_arr, p_obj, Patterns, ps_nil, ps_cons, PatEntries, pes_nil, pes_cons}
 use Rattle.tree.specs.Form.{f_term, f_pattern, f_patterns, f_pat_entries}
 use Rattle.rules.specs.Rows.{Env, var, push_vars}
 use Rattle.rules.specs.Outs.{vars, vars_all, vars_keyed}
 use Rattle.reads.specs.Bytes.{name_at, PatternAt}
 use Rattle.reads.specs.Shapes.{pattern-head, row-tail}
-use Rattle.cells.specs.Cells.{cell, number_at, kind_at, last_at, bound_as, View, env_of, Seen, Opened, Room}
+use Rattle.cells.specs.Cells.{number_at, kind_at, last_at, bound_as, View, env_of, Seen, Opened, Room}
 use Rattle.cells.specs.Notes.{lasts_of, notes_in, pat_at, places_in, places_all, places_keyed}
 use Rattle.rows.specs.Same.{order-of}
 use Rattle.rows.specs.Kept.{heads-below}

@@ -1,7 +1,7 @@
 -- Parameters, one after the other, and the definition that they are of. Assumes nothing.
-use Prim.Native.Nat.{ℕ, zero, suc, ◌+◌, ◌-◌, ◌*◌, ◌≤◌, ◌<◌}
+use Prim.Native.Nat.{ℕ, suc, ◌+◌, ◌-◌, ◌*◌, ◌≤◌, ◌<◌}
 use native.Mathlib.Omega.{arith}
-use mathlib.Core.Path.{◌≡◌, refl, sym, ap, ap₂, subst, ◌∙◌}
+use mathlib.Core.Path.{◌≡◌, refl, sym, ap, subst, ◌∙◌}
 use mathlib.Core.Bool.{Bool, true, false, cond}
 use mathlib.Core.List.{List, [], ◌∷◌}
 use lib.ListN.{length, get_or, set, length-set}
@@ -9,9 +9,9 @@ use Rattle.tree.specs.Rose.{end_of, text_of}
 use Rattle.tree.specs.Tree.{Name}
 use Rattle.rules.specs.Names.{is_var}
 use Rattle.rules.specs.Tails.{parent}
-use Rattle.rules.specs.Rows.{Row, var, label, arg, filter, Env, count, level, param, params, filter_of, inside}
+use Rattle.rules.specs.Rows.{Row, var, arg, filter, Env, count, level, param, params, filter_of, inside}
 use Rattle.reads.specs.Bytes.{name_at, names_of, Fields}
-use Rattle.cells.specs.Cells.{pushed, bound_as, View, outer, env_of, Seen, Opened, Room, Pushing}
+use Rattle.cells.specs.Cells.{pushed, bound_as, View, env_of, Seen, Opened, Room, Pushing}
 use Rattle.rows.specs.Kept.{heads-below}
 use Rattle.rows.specs.Fields.{length-pushed}
 use Rattle.rows.specs.Pushed.{binding, seen-bound, seen-parent, bind-ready, push-ready, fields-few, counts-small, pushing-later}

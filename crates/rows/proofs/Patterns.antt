@@ -1,23 +1,23 @@
 -- The variables of a pattern, one after the other. Assumes nothing.
-use Prim.Native.Nat.{ℕ, zero, suc, ◌+◌, ◌-◌, ◌*◌, ◌≤◌, ◌<◌}
+use Prim.Native.Nat.{ℕ, ◌+◌, ◌*◌, ◌≤◌, ◌<◌}
 use native.Mathlib.Omega.{arith}
-use mathlib.Core.Path.{◌≡◌, refl, sym, ap, ap₂, subst, ◌∙◌}
-use mathlib.Core.Bool.{Bool, true, false, cond}
+use mathlib.Core.Path.{◌≡◌, refl, sym, ap, subst, ◌∙◌}
+use mathlib.Core.Bool.{Bool, true, false}
 use mathlib.Core.List.{List, [], ◌∷◌, ◌++◌}
 use lib.Dec.{eqb}
 use lib.ListN.{length, get_or, length-append, length-set}
-use borrow.Author.Tests.{eqb-true, eqb-false, ne_eqb}
-use Rattle.tree.specs.Rose.{Row, rnil, rcons, end_of, text_of}
-use Rattle.tree.specs.Tree.{Name, Pattern, p_var, p_arr, p_obj, Patterns, ps_nil, ps_cons, PatEntries, pes_nil, pes_cons}
+use borrow.Author.Tests.{eqb-true, eqb-false}
+use Rattle.tree.specs.Rose.{Row, rnil, end_of, text_of}
+use Rattle.tree.specs.Tree.{Name, Pattern, p_arr, p_obj, Patterns, ps_nil, ps_cons, PatEntries, pes_nil, pes_cons}
 use Rattle.tree.specs.Form.{f_term, f_pattern, f_patterns, f_pat_entries}
 use Rattle.rules.specs.Rows.{Env, var, push_vars}
 use Rattle.rules.specs.Outs.{vars, vars_all, vars_keyed}
-use Rattle.reads.specs.Bytes.{name_at, TermAt, PatternAt, sub_pattern}
-use Rattle.reads.specs.Shapes.{pattern-fits, pattern-head, row-tail, row-end, head-fits, term-head, pattern-tag, on-pvar, on-parr, on-pobj, on-keyed-cons, PEntryAt, PArrAt, PObjAt}
+use Rattle.reads.specs.Bytes.{PatternAt, sub_pattern}
+use Rattle.reads.specs.Shapes.{pattern-fits, pattern-head, row-tail, row-end, head-fits, pattern-tag, on-pvar, on-parr, on-pobj, on-keyed-cons, PEntryAt, PArrAt, PObjAt}
 use Rattle.cells.specs.Cells.{pushed, bound_as, View, env_of, Seen, Opened, Room, Pushing}
 use Rattle.rows.specs.Kept.{heads-below}
 use Rattle.rows.specs.Fields.{length-pushed}
-use Rattle.rows.specs.Pushed.{binding, seen-bound, bind-ready, pushing-later}
+use Rattle.rows.specs.Pushed.{seen-bound, bind-ready}
 use Rattle.rows.specs.Opened.{opened-none, opened-then, opened-bound}
 
 -- ---- members of a pattern

@@ -1,13 +1,13 @@
 -- The cells of a row that was pushed, and what they say. Assumes nothing.
-use Rattle.std.specs.Prelude.{ℕ, zero, suc, ◌+◌, ◌-◌, ◌*◌, ◌/◌, ◌%◌, ◌≤◌, ◌<◌, ◌≡◌, refl, List, [], ◌∷◌, Bool, true, false, cond, ltb, length, get_or, set}
-use Rattle.std.proofs.Common.{arith, sym, ap, ◌∙◌, ltb-true}
-use Rattle.std.specs.Int.Bits.{bit_and, bit_xor}
+use Rattle.std.specs.Prelude.{ℕ, suc, ◌+◌, ◌*◌, ◌/◌, ◌%◌, ◌≤◌, ◌<◌, ◌≡◌, refl, List, [], ◌∷◌, Bool, true, false, cond, ltb, length, get_or, set}
+use Rattle.std.proofs.Common.{arith, ◌∙◌, ltb-true}
+use Rattle.std.specs.Int.Bits.{bit_xor}
 use Rattle.std.proofs.lemmas.Nat.{and_le_r}
 use Rattle.std.proofs.Math.ListN.{length-set}
 use Rattle.std.proofs.Math.Seq.{get_or-set_same, get_or-set_other, length-sets}
 use Rattle.std.proofs.lemmas.List.Edits.{sets}
 use Rattle.reads.specs.Bytes.{word_of, head_of}
-use Rattle.cells.specs.Cells.{cell, word_at, key_of, key_at, arity_at, number_at, kind_at, level_at, link_at, head_at, place_at, before_at, last_at, class_of, cells, pushed, bound_as, noted}
+use Rattle.cells.specs.Cells.{cell, word_at, key_of, key_at, arity_at, number_at, kind_at, level_at, link_at, head_at, place_at, before_at, last_at, class_of, cells, pushed, noted}
 use Rattle.cells.specs.Packing.{second, third, key-packed, arity-packed, number-packed, kind-packed, level-packed, link-packed, head-packed, place-packed, before-packed, note-number, note-kind}
 
 -- ---- heads

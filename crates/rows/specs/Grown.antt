@@ -1,15 +1,15 @@
 -- What is in view after one more row. Assumes nothing.
-use Prim.Native.Nat.{ℕ, zero, suc, ◌+◌, ◌-◌, ◌*◌, ◌≤◌, ◌<◌}
-use Rattle.std.proofs.Common.{arith, sym, ◌∙◌, inl, inr, lt-ltb, le-ltb, eqb-true, eq-eqb, ne_eqb}
-use Rattle.std.specs.Prelude.{◌≡◌, refl, ◌⊎◌, Bool, true, false, eqb, ltb, length, get_or}
+use Prim.Native.Nat.{ℕ, suc, ◌+◌, ◌-◌, ◌*◌, ◌≤◌, ◌<◌}
+use Rattle.std.proofs.Common.{arith, sym, ◌∙◌, inl, inr, lt-ltb, le-ltb, eqb-true}
+use Rattle.std.specs.Prelude.{◌≡◌, refl, Bool, true, false, eqb, ltb, length, get_or}
 use Rattle.std.proofs.Math.Path.{ap, ap₂, subst}
 use Rattle.std.proofs.Math.Bool.{cond}
-use mathlib.Core.List.{List, [], ◌∷◌, ◌++◌}
+use mathlib.Core.List.{List, ◌∷◌, ◌++◌}
 use Rattle.std.proofs.lemmas.Bool.{eqb-false}
 use Rattle.rules.specs.Rows.{Env, count, level}
 use Rattle.rules.specs.Lists.{Member}
 use Rattle.cells.specs.Cells.{kind_at, head_at, link_at, View, outer, row_at, rows_of, env_of, bound, in_view, bucket, Chain, Good, Based, Local, Seen}
-use Rattle.rows.specs.Same.{Rows, Fixed, Order, order-of, rows_same, bound-same, based-same, env-same, goods-same, linked-same, local_same, good-same}
+use Rattle.rows.specs.Same.{Rows, Fixed, order-of, bound-same, based-same, env-same, goods-same, linked-same, local_same}
 use Rattle.rows.specs.Kept.{heads-below}
 
 -- a fact of each number below k + 1, from those below k and that of k

@@ -1,8 +1,8 @@
 -- A callee that keeps the cells below row k keeps what is in view there. Assumes nothing.
-use Rattle.std.specs.Prelude.{ℕ, ◌+◌, ◌-◌, ◌*◌, ◌≤◌, ◌<◌, min, ◌≡◌, refl, List, ◌++◌, length, get_or, take}
+use Rattle.std.specs.Prelude.{ℕ, ◌+◌, ◌*◌, ◌≤◌, ◌<◌, min, ◌≡◌, List, length, get_or, take}
 use Rattle.std.proofs.Common.{arith, sym, ap, ◌∙◌, length-take, get_or-take, ext_get_or, take-take}
 use Rattle.rules.specs.Rows.{count, level}
-use Rattle.cells.specs.Cells.{View, outer, env_of, in_view, bucket, Chain, Seen}
+use Rattle.cells.specs.Cells.{View, outer, env_of, Seen}
 use Rattle.rows.specs.Same.{Rows, Fixed, Order, order-of, based-same, env-same, view-same, goods-same, linked-same, local_same}
 
 -- ---- cells below a place

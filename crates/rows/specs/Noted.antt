@@ -1,19 +1,17 @@
 -- Notes of a pattern, from which its variables come into view. Assumes nothing.
-use Rattle.std.specs.Prelude.{ℕ, zero, suc, ◌+◌, ◌-◌, ◌*◌, ◌≤◌, ◌<◌, ◌≡◌, refl, Bool, true, false, cond, List, [], ◌∷◌, ◌++◌, eqb, ltb, length, get_or}
+use Rattle.std.specs.Prelude.{ℕ, zero, suc, ◌+◌, ◌-◌, ◌≤◌, ◌<◌, ◌≡◌, refl, Bool, true, false, cond, List, [], ◌∷◌, eqb, ltb, length}
 use Rattle.std.proofs.Common.{arith, sym, ap, ap₂, subst, ◌∙◌, length-append, eqb-true, ltb-false}
 use Rattle.std.proofs.lemmas.Bool.{eqb-false}
-use Rattle.tree.specs.Rose.{Row, rnil, rcons, At, end_of, text_of}
+use Rattle.tree.specs.Rose.{Row, rnil, At, end_of}
 use Rattle.tree.specs.Tree.{Name, Term, Pattern, p_var, p_arr, p_obj, Patterns, ps_nil, ps_cons, PatEntries, pes_nil, pes_cons}
 use Rattle.tree.specs.Form.{f_term, f_pattern, f_patterns, f_pat_entries}
-use Rattle.rules.specs.Table.{Pat, pat_var, pat_idx, Pats, pats_nil, pats_cons}
-use Rattle.rules.specs.Rows.{var, label, arg, filter, Env, push_vars}
-use Rattle.rules.specs.Outs.{vars, vars_all, vars_keyed}
+use Rattle.rules.specs.Table.{Pat, pat_idx, Pats, pats_cons}
+use Rattle.rules.specs.Rows.{var, label, arg, filter, Env}
 use Rattle.rules.specs.Lists.{Every, every_append}
 use Rattle.reads.specs.Bytes.{name_at, PatternAt}
 use Rattle.reads.specs.Shapes.{pattern-fits, pattern-head, row-tail, head-fits, on-keyed-cons, PEntryAt}
 use Rattle.cells.specs.Cells.{number_at, kind_at, place_at, last_at, filter_at, View, outer, row_at, rows_of, env_of, Seen}
 use Rattle.cells.specs.Notes.{lasts_of, notes_in, notes_all, notes_keyed, pat_at, pats_at, keyed_at, places_in, places_all, places_keyed}
-use Rattle.rows.specs.Same.{order-of}
 
 -- ---- rows between which nothing came into view are notes
 

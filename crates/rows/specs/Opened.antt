@@ -1,15 +1,15 @@
 -- Rows that came into view leave it again, and all is as it was. Assumes nothing.
-use Rattle.std.specs.Prelude.{ℕ, zero, suc, ◌+◌, ◌-◌, ◌*◌, ◌≤◌, ◌<◌, ◌≡◌, refl, ◌⊎◌, Bool, true, false, cond, List, [], ◌∷◌, ◌++◌, eqb, ltb, length, get_or, set, take}
-use Rattle.std.proofs.Common.{arith, sym, ap, ap₂, subst, ◌∙◌, inl, inr, length-set, get_or-set_same, get_or-set_other, set-set, ext_get_or, lt-ltb, eqb-true, ltb-true, ltb-false}
+use Rattle.std.specs.Prelude.{ℕ, zero, suc, ◌+◌, ◌-◌, ◌*◌, ◌≤◌, ◌<◌, ◌≡◌, refl, Bool, true, false, cond, List, [], ◌∷◌, ◌++◌, eqb, ltb, length, get_or, set, take}
+use Rattle.std.proofs.Common.{arith, sym, ap, subst, ◌∙◌, inl, inr, length-set, get_or-set_same, get_or-set_other, set-set, ext_get_or, lt-ltb, eqb-true, ltb-true, ltb-false}
 use Rattle.std.proofs.Math.Seq.{set_out}
 use Rattle.std.proofs.lemmas.Bool.{eqb-false}
 use Rattle.tree.specs.Rose.{end_of, text_of}
 use Rattle.rules.specs.Lists.{Member}
-use Rattle.reads.specs.Bytes.{Fields, word_of, head_of}
+use Rattle.reads.specs.Bytes.{Fields, word_of}
 use Rattle.cells.specs.Cells.{cell, word_at, kind_at, head_at, link_at, place_at, pushed, bound_as, noted, View, bound, in_view, Seen, unlinked, unlinked_all, closed, Opened}
-use Rattle.cells.specs.Leaving.{unlinked-note, unlinked-row, length-unlinked, length-unlinked-all}
+use Rattle.cells.specs.Leaving.{unlinked-note, unlinked-row, length-unlinked-all}
 use Rattle.rows.specs.Same.{order-of}
-use Rattle.rows.specs.Kept.{below_at, below-ext, below_less, heads-below}
+use Rattle.rows.specs.Kept.{below_at, below-ext, heads-below}
 use Rattle.rows.specs.Fields.{head-low, head-high, head_for, length-pushed, pushed-below, length-noted, noted-below, noted-kind}
 use Rattle.rows.specs.Pushed.{Pushable, Counted, row_pushed}
 

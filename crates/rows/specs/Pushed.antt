@@ -1,14 +1,14 @@
 -- What is in view after a push: a variable, label or filter argument; a definition; a note. Assumes nothing.
-use Rattle.std.specs.Prelude.{ℕ, zero, suc, ◌+◌, ◌-◌, ◌*◌, ◌/◌, ◌%◌, ◌≤◌, ◌<◌, ◌≡◌, refl, Bool, true, false, cond, List, [], ◌∷◌, ◌++◌, eqb, ltb, length, get_or, set, take, drop}
-use Rattle.std.proofs.Common.{arith, sym, ap, ap₂, subst, ◌∙◌, length-set, length-take, length-drop, get_or-set_same, get_or-set_other, ne_eqb, le-ltb}
+use Rattle.std.specs.Prelude.{ℕ, zero, suc, ◌+◌, ◌-◌, ◌*◌, ◌≤◌, ◌<◌, ◌≡◌, refl, Bool, true, false, cond, List, [], ◌∷◌, ◌++◌, eqb, ltb, length, get_or, set, take, drop}
+use Rattle.std.proofs.Common.{arith, sym, ap, ap₂, ◌∙◌, length-set, length-take, length-drop, get_or-set_same, get_or-set_other, ne_eqb, le-ltb}
 use Rattle.tree.specs.Rose.{end_of, text_of}
 use Rattle.tree.specs.Tree.{Name}
 use Rattle.rules.specs.Tails.{Fun, parent, sibling}
 use Rattle.rules.specs.Rows.{Row, var, label, arg, filter, Filter, Env, count, level, filter_of}
 use Rattle.reads.specs.Bytes.{name_at, names_of, Fields, word_of, head_of}
-use Rattle.cells.specs.Cells.{cell, arity_at, number_at, kind_at, level_at, head_at, link_at, before_at, place_at, last_at, filter_at, key_of, class_of, pushed, bound_as, noted, View, outer, row_at, rows_of, env_of, in_view, bucket, Chain, Good, Local, Seen, Room, Pushing}
+use Rattle.cells.specs.Cells.{arity_at, number_at, kind_at, level_at, before_at, place_at, last_at, filter_at, class_of, pushed, bound_as, noted, View, outer, row_at, rows_of, env_of, in_view, bucket, Chain, Good, Seen, Room, Pushing}
 use Rattle.cells.specs.Packing.{second, third}
-use Rattle.rows.specs.Same.{Rows, Between, Fixed, Order, order-of, env-same, view-between, bucket-between}
+use Rattle.rows.specs.Same.{Between, order-of, env-same, view-between, bucket-between}
 use Rattle.rows.specs.Kept.{heads-below, below-ext}
 use Rattle.rows.specs.Grown.{Grown, env-grown, seen-note, seen-row}
 use Rattle.rows.specs.Fields.{head-low, head-high, head_for, length-pushed, pushed-below, pushed-above, pushed-head, pushed-0, pushed-1, pushed-2, pushed-3, RowIs, row_is, length-noted, noted-below, noted-kind}

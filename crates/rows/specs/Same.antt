@@ -1,17 +1,14 @@
 -- Rows that keep their cells keep what they stand for: bindings, buckets, chains, and all that is in view. Assumes nothing.
-use Prim.Native.Nat.{ℕ, zero, suc, ◌+◌, ◌-◌, ◌*◌, ◌/◌, ◌%◌, ◌≤◌, ◌<◌}
+use Prim.Native.Nat.{ℕ, zero, suc, ◌+◌, ◌-◌, ◌*◌, ◌≤◌, ◌<◌}
 use native.Mathlib.Omega.{arith}
-use Rattle.std.specs.Prelude.{◌≡◌, ◌⊎◌, Bool, true, false, cond, eqb, ltb, length, get_or}
+use Rattle.std.specs.Prelude.{◌≡◌, Bool, true, false, cond, eqb, ltb, length, get_or}
 use Rattle.std.proofs.Math.Path.{refl, ap₂}
 use Rattle.std.proofs.Common.{sym, ap, subst, ◌∙◌, inl, inr}
 use mathlib.Core.List.{List, [], ◌∷◌, ◌++◌}
-use Rattle.tree.specs.Rose.{node, rnil, At}
 use Rattle.tree.specs.Tree.{Name, Native}
-use Rattle.tree.specs.Form.{f_imports, f_numbers}
-use Rattle.rules.specs.Rows.{Filter, Env, filters, count}
-use Rattle.rules.specs.Filters.{home_of}
+use Rattle.rules.specs.Rows.{Filter, Env, filters}
 use Rattle.rules.specs.Lists.{Every, every_append, every_map, Member}
-use Rattle.cells.specs.Cells.{cell, kind_at, head_at, link_at, before_at, View, outer, row_at, rows_of, env_of, bound, in_view, bucket, Chain, Good, Vars, Natives, low_of, high_of, Kept, Mine, Based, Local, Seen}
+use Rattle.cells.specs.Cells.{cell, kind_at, head_at, link_at, View, outer, row_at, rows_of, env_of, bound, in_view, bucket, Chain, Good, Vars, Natives, low_of, high_of, Kept, Mine, Based, Local, Seen}
 
 -- the cells of the rows from lo up to hi are the same
 abbrev pub Rows : List ℕ → List ℕ → ℕ → ℕ → Type 0

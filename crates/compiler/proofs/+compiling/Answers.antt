@@ -7,7 +7,6 @@ use mathlib.Core.Logic.{inl, inr}
 use Rattle.reads.specs.Shapes.{tag-yes, tag-no}
 use lib.ListN.{length, get_or}
 use Rattle.tree.specs.Rose.{end_of}
-use Rattle.puts.specs.State.{num}
 use Rattle.compiler.specs.FormsA.Asks as asks
 use Rattle.compiler.specs.FormsA.Simple as simple
 use Rattle.compiler.specs.FormsA.Pairs as pairing

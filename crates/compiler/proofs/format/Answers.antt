@@ -1,5 +1,4 @@
 -- The format: a call of its name, or ToString.
-use Prim.Native.Nat.{◌-◌}
 use native.Mathlib.Omega.{arith}
 use mathlib.Core.Path.{refl}
 use Rattle.reads.specs.Texts.{text-slice}

@@ -1,5 +1,4 @@
 -- A string that is one text: its own record is reserved, ToString put, then the text.
-use Prim.Native.Nat.{◌-◌}
 use native.Mathlib.Omega.{arith}
 use mathlib.Core.Path.{refl, sym, ap}
 use lib.ListN.{length}

@@ -1,26 +1,25 @@
 -- What the forms' callees ask for: room in the numbers, rows, and the rows that leave the view. Assumes nothing.
-use Rattle.std.specs.Prelude.{ℕ, zero, suc, ◌+◌, ◌-◌, ◌*◌, ◌^◌, ◌≤◌, ◌<◌, ◌≡◌, refl, Bool, true, false, cond, ◌⊎◌, List, [], ◌∷◌, ◌++◌, eqb, length, get_or, set, take, drop}
-use Rattle.std.proofs.Common.{arith, sym, ap, ap₂, subst, ◌∙◌, inl, inr, length-set, get_or-set_other}
+use Rattle.std.specs.Prelude.{ℕ, ◌+◌, ◌-◌, ◌*◌, ◌^◌, ◌≤◌, ◌<◌, ◌≡◌, refl, Bool, true, false, cond, ◌⊎◌, List, [], eqb, length, get_or, set, take, drop}
+use Rattle.std.proofs.Common.{arith, sym, ap, subst, ◌∙◌, inl, inr, length-set, get_or-set_other}
 use Rattle.fields.specs.Field.{field}
 use Rattle.fields.specs.Room.{overlay}
 use Rattle.tree.specs.Rose.{end_of, text_of, Row}
-use Rattle.tree.specs.Tree.{Term, Branches, b_pair}
+use Rattle.tree.specs.Tree.{Branches, b_pair}
 use Rattle.tree.specs.Form.{f_branches}
 use Rattle.rules.specs.Listing.{table_bytes}
-use Rattle.reads.specs.Bytes.{TermAt, name_at}
-use Rattle.reads.specs.Shapes.{LabelAt, IteAt, on-label, on-ite, term_fits}
-use Rattle.puts.specs.State.{num, off, ers, late, start_of, spot_of, next_of}
-use Rattle.cells.specs.Cells.{View, Seen, env_of, Room, Opened, bound_as, noted, closed, kind_at, head_at}
+use Rattle.reads.specs.Shapes.{on-label, on-ite, term_fits}
+use Rattle.puts.specs.State.{num, off, late, start_of, spot_of, next_of}
+use Rattle.cells.specs.Cells.{View, Seen, Room, Opened, bound_as, noted, closed, kind_at, head_at}
 use Rattle.cells.specs.Leaving.{length-closed}
-use Rattle.cells.specs.Notes.{Pair, elses_of, pairs_at, pair_count}
+use Rattle.cells.specs.Notes.{elses_of, pairs_at, pair_count}
 use Rattle.rows.specs.Kept.{seen-kept, heads-below}
 use Rattle.rows.specs.Pushed.{seen-bound, bind-ready}
 use Rattle.rows.specs.Opened.{opened-bound, close-ready}
 use Rattle.records.specs.Elses.{Elsed, two-stored}
 use Rattle.compiler.specs.declared.Run.{Run}
-use Rattle.compiler.specs.Post.{Ready, Stands, Placed, Paid, Laid, OrEmpty, Paired, Else}
-use Rattle.compiler.specs.Common.{Noting, off-off, off-len, start-le}
-use Rattle.compiler.specs.Moves.{NoteIs, note-is}
+use Rattle.compiler.specs.Post.{Ready, Stands, Placed, Laid, OrEmpty, Paired, Else}
+use Rattle.compiler.specs.Common.{Noting, off-off, start-le}
+use Rattle.compiler.specs.Moves.{note-is}
 use Rattle.compiler.specs.FormsA.Simple.{Labels}
 use Rattle.compiler.specs.FormsA.Leaves.{part_length}
 use Rattle.compiler.specs.FormsA.Ite.{elses-few, pairs-length, else-none}

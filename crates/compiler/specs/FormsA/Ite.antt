@@ -1,29 +1,28 @@
 -- Conditionals: what follows the pairs, and the whole. Assumes nothing.
-use Rattle.std.specs.Prelude.{ℕ, zero, suc, ◌+◌, ◌-◌, ◌*◌, ◌^◌, ◌≤◌, ◌<◌, ◌≡◌, refl, Bool, true, false, cond, List, [], ◌∷◌, ◌++◌, length, get_or, set, take}
+use Rattle.std.specs.Prelude.{ℕ, zero, suc, ◌+◌, ◌-◌, ◌*◌, ◌≤◌, ◌<◌, ◌≡◌, refl, List, [], ◌∷◌, ◌++◌, length, get_or, set}
 use Rattle.std.proofs.Common.{arith, add-zero, sym, ap, ap₂, subst, ◌∙◌, length-append}
 use Rattle.std.specs.Int.Bits.{bit_or}
-use Rattle.fields.specs.Number.{number}
 use Rattle.fields.specs.Field.{field}
 use Rattle.fields.specs.Room.{overlay}
 use Rattle.tree.specs.Rose.{end_of, rnil, At, Row, row-le}
 use Rattle.tree.specs.Tree.{Term, Branches, b_none, b_else, b_pair, t_if_then_else}
 use Rattle.tree.specs.Form.{f_term, f_branches}
 use Rattle.rules.specs.Table.{Rec, Err, Node, n_id, n_ite}
-use Rattle.rules.specs.Tails.{Tail, empty, union}
+use Rattle.rules.specs.Tails.{Tail, empty}
 use Rattle.rules.specs.Rows.{Env}
-use Rattle.rules.specs.Outs.{Out, slot, size, node, leaf, ite_out}
-use Rattle.rules.specs.Listing.{node_bytes, rec_bytes, table_bytes, errs_bytes}
+use Rattle.rules.specs.Outs.{Out, size, node, ite_out}
+use Rattle.rules.specs.Listing.{node_bytes, rec_bytes, table_bytes}
 use Rattle.rules.specs.Rules.{term, branches}
 use Rattle.reads.specs.Bytes.{TermAt}
 use Rattle.reads.specs.Shapes.{IteAt, on-ite, term-head}
 use Rattle.puts.specs.State.{num, off, ers, late, start_of, spot_of, next_of, Put, Own}
 use Rattle.puts.specs.Rooms.{put_then, own_alone, table-append}
 use Rattle.cells.specs.Cells.{View, Seen, env_of, number_at, last_at}
-use Rattle.cells.specs.Notes.{Pair, Pairs, pairs_of, else_of, pair_count, pairs_at, elses_of}
-use Rattle.records.specs.Elses.{Elsed, IteIs, IteFlat, ite-flat, else-put, two-stored}
-use Rattle.rows.specs.Kept.{seen-kept, below_less}
+use Rattle.cells.specs.Notes.{Pair, pairs_of, else_of, pair_count, pairs_at, elses_of}
+use Rattle.records.specs.Elses.{Elsed, IteFlat, ite-flat, else-put, two-stored}
+use Rattle.rows.specs.Kept.{below_less}
 use Rattle.compiler.specs.declared.Run.{Run}
-use Rattle.compiler.specs.Post.{Ready, Stands, Placed, Paid, Did, Laid, Paired, Else}
+use Rattle.compiler.specs.Post.{Ready, Stands, Did, Paired, Else}
 use Rattle.compiler.specs.Common.{off-num, off-ers, off-len, off-off, start-le, place-le, form-did, ready_at, bare-long, three-long}
 use Rattle.compiler.specs.Moves.{ready-part}
 use Rattle.compiler.specs.FormsA.Pairs.{pairs-kept}

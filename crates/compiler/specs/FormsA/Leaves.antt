@@ -1,6 +1,6 @@
 -- Forms without members: Id, Recurse, Num, Var, Break. Assumes nothing.
-use Rattle.std.specs.Prelude.{ℕ, zero, suc, ◌+◌, ◌-◌, ◌*◌, ◌^◌, ◌≤◌, ◌<◌, ◌≡◌, refl, Bool, true, false, cond, ◌&&◌, ◌⊎◌, List, [], ◌∷◌, ◌++◌, leb, ltb, eqb, length, get_or, set, take, drop}
-use Rattle.std.proofs.Common.{arith, add-zero, sym, ap, ap₂, subst, ◌∙◌, inl, inr, length-append, length-set, get_or-set_same, get_or-set_other, ltb-true, ltb-false, le-leb}
+use Rattle.std.specs.Prelude.{ℕ, ◌+◌, ◌-◌, ◌*◌, ◌^◌, ◌≤◌, ◌<◌, ◌≡◌, refl, Bool, true, false, cond, ◌&&◌, List, [], ◌++◌, leb, ltb, eqb, length, get_or, set, take, drop}
+use Rattle.std.proofs.Common.{arith, add-zero, sym, ap, ap₂, subst, ◌∙◌, inl, inr, length-set, get_or-set_same, get_or-set_other, ltb-true, ltb-false, le-leb}
 use Rattle.std.proofs.Math.Option.{Option, none, some}
 use Rattle.std.proofs.lemmas.Bool.{lt-leb}
 use Rattle.reads.specs.Texts.{text-slice}
@@ -8,23 +8,22 @@ use Rattle.fields.specs.Number.{number}
 use Rattle.fields.specs.Field.{field}
 use Rattle.fields.specs.Room.{overlay}
 use Rattle.tree.specs.Rose.{end_of, text_of}
-use Rattle.tree.specs.Tree.{Term, t_id, t_recurse, t_num, t_var, t_break}
+use Rattle.tree.specs.Tree.{Term}
 use Rattle.rules.specs.Names.{Text}
-use Rattle.rules.specs.Table.{Rec, Err, Node, n_id, n_recurse, n_int, n_num, n_var, u_var, u_label, Undefined}
-use Rattle.rules.specs.Tails.{empty}
+use Rattle.rules.specs.Table.{Err, Node, n_id, n_recurse, n_int, n_num, n_var, u_var, u_label, Undefined}
 use Rattle.rules.specs.Rows.{Env, find_label}
 use Rattle.rules.specs.Filters.{variable, error_at}
-use Rattle.rules.specs.Outs.{Out, slot, size, node, leaf, fail, var_out, numeral, are_digits, decimal}
-use Rattle.rules.specs.Listing.{node_bytes, rec_bytes, table_bytes, err_bytes, errs_bytes}
+use Rattle.rules.specs.Outs.{Out, leaf, fail, var_out, numeral, are_digits, decimal}
+use Rattle.rules.specs.Listing.{node_bytes, rec_bytes, table_bytes, err_bytes}
 use Rattle.rules.specs.Rules.{term}
-use Rattle.reads.specs.Bytes.{TermAt, name_at}
+use Rattle.reads.specs.Bytes.{TermAt}
 use Rattle.reads.specs.Widths.{int_of}
-use Rattle.reads.specs.Shapes.{BareAt, LeafAt, on-id, on-recurse, on-break, on-var, on-num, term_fits, text-length}
-use Rattle.puts.specs.State.{num, off, ers, late, start_of, spot_of, next_of, Put, Own}
+use Rattle.reads.specs.Shapes.{on-id, on-recurse, on-break, on-var, on-num, text-length}
+use Rattle.puts.specs.State.{num, off, ers, late, start_of, spot_of, next_of, Own}
 use Rattle.puts.specs.Rooms.{own_alone, own-fail, put-error}
 use Rattle.cells.specs.Cells.{View, Seen, env_of, before_at}
 use Rattle.finds.specs.Means.{sought, HitIs, Finds}
-use Rattle.compiler.specs.Post.{Ready, Stands, Placed, Paid, Did, Laid, NameIs}
+use Rattle.compiler.specs.Post.{Did, NameIs}
 use Rattle.compiler.specs.Common.{off-num, off-ers, off-len, off-off, place-le, bare-long, one-long, three-long}
 
 -- a leaf of w bytes

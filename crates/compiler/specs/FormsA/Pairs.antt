@@ -1,19 +1,17 @@
 -- The pairs of a conditional: a loop over siblings, each with a note of its two numbers. Assumes nothing.
-use Rattle.std.specs.Prelude.{ℕ, zero, suc, ◌+◌, ◌-◌, ◌*◌, ◌^◌, ◌≤◌, ◌<◌, ◌≡◌, refl, Bool, true, false, cond, List, [], ◌∷◌, ◌++◌, length, get_or, set, take}
-use Rattle.std.proofs.Common.{arith, add-zero, add-one, sym, ap, ap₂, subst, ◌∙◌, append_assoc, append-nil}
+use Rattle.std.specs.Prelude.{ℕ, zero, suc, ◌+◌, ◌-◌, ◌*◌, ◌≤◌, ◌<◌, ◌≡◌, refl, List, [], ◌∷◌, ◌++◌, length, get_or, take}
+use Rattle.std.proofs.Common.{arith, add-zero, sym, ap, ap₂, subst, ◌∙◌, append_assoc, append-nil}
 use Rattle.std.specs.Int.Bits.{bit_or, or_zero_r}
-use Rattle.tree.specs.Rose.{end_of, rnil, At, Row, row-le}
+use Rattle.tree.specs.Rose.{end_of, At, Row, row-le}
 use Rattle.tree.specs.Tree.{Term, Branches, b_none, b_else, b_pair}
 use Rattle.tree.specs.Form.{f_term, f_branches}
-use Rattle.rules.specs.Sets.{digit, digit_or, same_digits}
-use Rattle.rules.specs.Table.{Rec, Err}
-use Rattle.rules.specs.Tails.{empty, union}
+use Rattle.rules.specs.Sets.{digit_or, same_digits}
+use Rattle.rules.specs.Tails.{empty}
 use Rattle.rules.specs.Rows.{Env}
-use Rattle.rules.specs.Outs.{Out, slot, size}
+use Rattle.rules.specs.Outs.{slot, size}
 use Rattle.rules.specs.Rules.{term}
-use Rattle.reads.specs.Bytes.{TermAt}
 use Rattle.reads.specs.Shapes.{PairAt, on-pair}
-use Rattle.puts.specs.State.{num, off, ers, Put}
+use Rattle.puts.specs.State.{num, Put}
 use Rattle.puts.specs.Rooms.{put_then, put-none}
 use Rattle.cells.specs.Cells.{View, Seen, env_of, cell, number_at, last_at}
 use Rattle.cells.specs.Notes.{Pair, Pairs, pairs_of, else_of, pair_count, pairs_at}

@@ -1,27 +1,26 @@
 -- Forms with one or two members: Arr, Neg, Label, TryCatch. Assumes nothing.
-use Rattle.std.specs.Prelude.{ℕ, suc, ◌+◌, ◌-◌, ◌*◌, ◌^◌, ◌≤◌, ◌<◌, ◌≡◌, refl, Bool, true, false, cond, List, [], ◌∷◌, ◌++◌, length, get_or, set, take}
-use Rattle.std.proofs.Common.{arith, add-zero, sym, ap, ap₂, subst, ◌∙◌, length-append}
+use Rattle.std.specs.Prelude.{ℕ, suc, ◌+◌, ◌*◌, ◌≤◌, ◌<◌, ◌≡◌, refl, List, [], ◌∷◌, ◌++◌, length, get_or, set, take}
+use Rattle.std.proofs.Common.{arith, add-zero, sym, ap, subst, ◌∙◌}
 use Rattle.fields.specs.Number.{number}
 use Rattle.fields.specs.Field.{field}
 use Rattle.fields.specs.Room.{overlay}
 use Rattle.tree.specs.Rose.{end_of, rnil, Row, row-le}
 use Rattle.tree.specs.Tree.{Term, OptTerm, t_arr, t_neg, t_label, t_try_catch}
 use Rattle.tree.specs.Form.{f_opt_term}
-use Rattle.rules.specs.Table.{Rec, Err, Node, n_arr, n_neg, n_label, n_try_catch}
+use Rattle.rules.specs.Table.{Rec, Err, n_arr, n_neg, n_label, n_try_catch}
 use Rattle.rules.specs.Tails.{empty}
 use Rattle.rules.specs.Rows.{Env, label}
-use Rattle.rules.specs.Outs.{Out, slot, size, node, bare}
-use Rattle.rules.specs.Listing.{rec_bytes, table_bytes, errs_bytes}
+use Rattle.rules.specs.Outs.{slot, size, node, bare}
 use Rattle.rules.specs.Names.{ascii}
 use Rattle.rules.specs.Rules.{term, or_empty, empty_out, called}
-use Rattle.reads.specs.Bytes.{TermAt, name_at}
-use Rattle.reads.specs.Shapes.{ArrAt, NegAt, LabelAt, TryAt, on-arr, on-neg, on-label, on-try, on-some-term, on-no-term, term_fits}
-use Rattle.puts.specs.State.{num, off, ers, late, start_of, spot_of, next_of, Put, Own}
+use Rattle.reads.specs.Bytes.{name_at}
+use Rattle.reads.specs.Shapes.{ArrAt, NegAt, LabelAt, TryAt, on-arr, on-neg, on-label, on-try, on-some-term, on-no-term}
+use Rattle.puts.specs.State.{num, off, ers, start_of, spot_of, next_of, Put}
 use Rattle.puts.specs.Rooms.{put_then}
 use Rattle.cells.specs.Cells.{View, Seen, env_of, Opened, closed}
 use Rattle.rows.specs.Kept.{seen-kept}
-use Rattle.compiler.specs.Post.{Ready, Stands, Placed, Paid, Did, Laid, OrEmpty}
-use Rattle.compiler.specs.Common.{off-num, off-ers, off-len, off-off, start-le, form-did, ready_at, ready-then, one-long, two-long}
+use Rattle.compiler.specs.Post.{Ready, Stands, Did, Laid, OrEmpty}
+use Rattle.compiler.specs.Common.{off-num, form-did, ready_at, ready-then, one-long, two-long}
 
 -- ---- Arr
 

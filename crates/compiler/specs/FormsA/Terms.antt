@@ -1,16 +1,13 @@
 -- A term with its number reserved, and the term of each tag. Assumes nothing.
-use Rattle.std.specs.Prelude.{ℕ, zero, suc, ◌+◌, ◌-◌, ◌*◌, ◌^◌, ◌≤◌, ◌<◌, ◌≡◌, refl, ◌⊎◌, List, [], ◌∷◌, ◌++◌, length, get_or, set, take}
-use Rattle.std.proofs.Common.{arith, add-one, sym, ap, ap₂, subst, ◌∙◌, inl, inr}
+use Rattle.std.specs.Prelude.{ℕ, suc, ◌+◌, ◌≤◌, ◌<◌, ◌≡◌, List, get_or, set}
+use Rattle.std.proofs.Common.{arith, add-one, subst, ◌∙◌, inl}
 use Rattle.tree.specs.Rose.{end_of}
-use Rattle.tree.specs.Tree.{Term}
-use Rattle.rules.specs.Outs.{Out, slot}
 use Rattle.rules.specs.Rules.{term}
-use Rattle.reads.specs.Bytes.{TermAt}
-use Rattle.reads.specs.Shapes.{term-tag, term_fits}
-use Rattle.puts.specs.State.{num, off, ers, late, Put, Own}
+use Rattle.reads.specs.Shapes.{term-tag}
+use Rattle.puts.specs.State.{num, off, late, Own}
 use Rattle.puts.specs.Rooms.{slot-own}
-use Rattle.cells.specs.Cells.{View, Seen, env_of}
-use Rattle.compiler.specs.Post.{Ready, Stands, Placed, Paid, Did, Laid}
+use Rattle.cells.specs.Cells.{env_of}
+use Rattle.compiler.specs.Post.{Ready, Stands, Placed, Did, Laid}
 use Rattle.compiler.specs.Common.{num-num, num-off, num-ers, num-len}
 
 -- its own number is reserved: it is ready at the place behind p

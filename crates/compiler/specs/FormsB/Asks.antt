@@ -1,37 +1,33 @@
 -- The laws of operators, patterns and folds in the form in which the code's calls ask for them: places as results of calls, each by an equation. Assumes nothing.
-use Rattle.std.specs.Prelude.{ℕ, zero, suc, ◌+◌, ◌-◌, ◌*◌, ◌^◌, ◌≤◌, ◌<◌, ◌≡◌, refl, ◌⊎◌, List, [], ◌∷◌, ◌++◌, true, length, get_or, set, take}
-use Rattle.std.proofs.Common.{arith, sym, ap, ap₂, subst, ◌∙◌, inl, inr}
-use Rattle.std.proofs.Math.Option.{some}
+use Rattle.std.specs.Prelude.{ℕ, ◌+◌, ◌-◌, ◌*◌, ◌^◌, ◌≤◌, ◌<◌, ◌≡◌, refl, ◌⊎◌, List, [], ◌∷◌, ◌++◌, true, length, get_or, set}
+use Rattle.std.proofs.Common.{arith, sym, ap, subst, ◌∙◌, inl, inr}
 use Rattle.std.specs.Int.Bits.{bit_or}
 use Rattle.fields.specs.Number.{number}
 use Rattle.fields.specs.Field.{field}
 use Rattle.fields.specs.Room.{overlay}
-use Rattle.tree.specs.Rose.{rnil, end_of, text_of, Row}
+use Rattle.tree.specs.Rose.{end_of}
 use Rattle.tree.specs.Leaf.{is_operator}
-use Rattle.tree.specs.Form.{f_patterns, f_pat_entries}
-use Rattle.tree.specs.Tree.{Term, Pattern, Patterns, PatEntries, operator_of, operator}
-use Rattle.rules.specs.Table.{n_pipe, n_id}
+use Rattle.tree.specs.Tree.{Pattern, operator_of, operator}
+use Rattle.rules.specs.Table.{n_id}
 use Rattle.rules.specs.Rows.{push_vars}
 use Rattle.rules.specs.Outs.{left_allows, right_allows, binary, vars, leaf}
 use Rattle.rules.specs.Listing.{node_bytes}
 use Rattle.reads.specs.declared.width.Fold.{Fold}
-use Rattle.reads.specs.Bytes.{TermAt, PatternAt}
-use Rattle.reads.specs.Widths.{pat_width, op_width, fold_width}
+use Rattle.reads.specs.Bytes.{PatternAt}
+use Rattle.reads.specs.Widths.{pat_width, op_width}
 use Rattle.reads.specs.Folds.{FoldOf}
-use Rattle.reads.specs.Shapes.{operator-at}
 use Rattle.reads.specs.Parts.{pattern-fits}
 use Rattle.puts.specs.State.{num, off, ers, late, start_of, spot_of, next_of, Own}
 use Rattle.puts.specs.Rooms.{own_alone, start-high, spot-within, placed-within}
-use Rattle.cells.specs.Cells.{View, Seen, env_of, closed, Opened, Pushing, noted, kind_at, head_at, last_at}
+use Rattle.cells.specs.Cells.{View, Seen, env_of, closed, Opened, noted, kind_at, head_at, last_at}
 use Rattle.cells.specs.Notes.{pat_at, lasts_of, places_in}
 use Rattle.rows.specs.Kept.{heads-below}
 use Rattle.rows.specs.Opened.{close-ready}
-use Rattle.records.specs.Patterns.{HoldsPat, HoldsFold, fold_node}
 use Rattle.compiler.specs.declared.Updated.{Updated}
-use Rattle.compiler.specs.Post.{Ready, Stands, Placed, Paid, Did, Laid, Patterned, Members, Keyed}
+use Rattle.compiler.specs.Post.{Ready, Stands, Placed, Did, Laid, Patterned}
 use Rattle.compiler.specs.Pieces as pieces
 use Rattle.compiler.specs.Pieces.{Under, Noted, Projected, Updating}
-use Rattle.compiler.specs.Moves.{Stored, set-off, set-ers, NoteIs, note-is}
+use Rattle.compiler.specs.Moves.{set-off, set-ers, NoteIs, note-is}
 use Rattle.compiler.specs.FormsB.Operators as ops
 use Rattle.compiler.specs.FormsB.Patterns as pats
 use Rattle.compiler.specs.FormsB.Patterns.{Spare}

@@ -1,47 +1,44 @@
 -- Folds: "source, pattern, init, update, projection; update and projection under the variables." Assumes nothing.
-use Prim.Native.Nat.{ℕ, zero, suc, ◌+◌, ◌-◌, ◌*◌, ◌^◌, ◌≤◌, ◌<◌}
-use Rattle.std.proofs.Common.{arith, ap, ap₂, ◌∙◌, length-append, length-set, get_or-set_other}
-use Rattle.std.specs.Prelude.{◌≡◌, refl, true, false, eqb, ltb, length, get_or, set, take}
+use Prim.Native.Nat.{ℕ, zero, suc, ◌+◌, ◌-◌, ◌*◌, ◌≤◌, ◌<◌}
+use Rattle.std.proofs.Common.{arith, ap, ap₂, ◌∙◌, length-append, get_or-set_other}
+use Rattle.std.specs.Prelude.{◌≡◌, refl, true, false, eqb, length, get_or, set, take}
 use Rattle.std.proofs.Math.Path.{sym, subst}
 use Rattle.std.proofs.Math.Bool.{Bool, cond}
-use mathlib.Core.List.{List, [], ◌∷◌, ◌++◌, append-nil, append_assoc}
+use mathlib.Core.List.{List, [], ◌∷◌, ◌++◌, append-nil}
 use Rattle.std.proofs.Math.Option.{none, some}
-use borrow.Author.Tests.{eqb-true, eqb-false, ne_eqb, eq-eqb}
+use borrow.Author.Tests.{eqb-true, ne_eqb}
 use Rattle.fields.specs.Number.{number}
 use Rattle.fields.specs.Field.{field}
 use Rattle.fields.specs.Room.{overlay}
 use Rattle.tree.specs.Rose.{rnil, end_of, text_of, Row, row-le}
 use Rattle.tree.specs.Form.{f_terms}
-use Rattle.tree.specs.Tree.{Name, text_place, Term, Terms, ts_nil, ts_cons, Pattern, p_var, p_arr, p_obj, Patterns, ps_nil, ps_cons, PatEntries, pes_nil, pes_cons, t_fold}
+use Rattle.tree.specs.Tree.{Name, Term, Terms, ts_nil, ts_cons, Pattern, p_var, p_arr, p_obj, Patterns, ps_nil, ps_cons, PatEntries, pes_nil, pes_cons}
 use Rattle.rules.specs.Names.{Text, ascii, same}
-use Rattle.rules.specs.Table.{Rec, Err, Node, n_id, n_fold, Pat, Folding, reduce, foreach, u_filter}
+use Rattle.rules.specs.Table.{Rec, Err, Node, n_id, n_fold, Pat, Folding, reduce, foreach}
 use Rattle.rules.specs.Tails.{Tail, empty}
 use Rattle.rules.specs.Rows.{Env, push_vars}
-use Rattle.rules.specs.Filters.{Top, home_of, error_at}
+use Rattle.rules.specs.Filters.{Top, home_of}
 use Rattle.rules.specs.Outs.{Out, slot, size, vars, Made, arity}
 use Rattle.rules.specs.Outs as outs
-use Rattle.rules.specs.Listing.{node_bytes, rec_bytes, table_bytes, err_bytes, errs_bytes}
-use Rattle.rules.specs.Rules.{term, pattern, waiting, end_of_fold, out_of_fold, fold_error}
+use Rattle.rules.specs.Listing.{err_bytes}
+use Rattle.rules.specs.Rules.{term, waiting, end_of_fold, fold_error}
 use Rattle.reads.specs.Bytes.{TermAt, PatternAt, name_at}
-use Rattle.reads.specs.Widths.{pat_width, fold_kind, fold_width}
-use Rattle.reads.specs.Lengths.{own-fold}
-use Rattle.reads.specs.Shapes.{FoldAt, on-fold, on-arity-cons, text-length, term_fits}
-use Rattle.puts.specs.State.{num, off, ers, late, start_of, spot_of, next_of, Put, Own}
-use Rattle.puts.specs.Rooms.{put_then, put-none, put-error, own-node, own-fail, start-high, spot-within, placed-within}
-use Rattle.cells.specs.Cells.{View, Seen, env_of, closed, unlinked, unlinked_all, Opened, number_at, last_at, kind_at, head_at}
+use Rattle.reads.specs.Widths.{fold_kind}
+use Rattle.reads.specs.Shapes.{on-arity-cons, text-length}
+use Rattle.puts.specs.State.{num, ers, Put}
+use Rattle.puts.specs.Rooms.{put_then, put-none, put-error}
+use Rattle.cells.specs.Cells.{View, Seen, env_of, closed, unlinked, unlinked_all, Opened, number_at}
 use Rattle.cells.specs.Leaving.{length-closed, HeadBelow, unlinked-at, head-kept, length-unlinked}
 use Rattle.cells.specs.Notes.{lasts_of, pat_at, places_in, places_all, places_keyed, notes_in, notes_all, notes_keyed}
 use Rattle.rows.specs.Kept.{heads-below}
 use Rattle.rows.specs.Opened.{opened-close, heads-ready}
-use Rattle.records.specs.Patterns.{folding_of, fold_node, HoldsFold}
+use Rattle.records.specs.Patterns.{folding_of, fold_node}
 use Rattle.compiler.specs.declared.Updated.{Updated}
-use Rattle.compiler.specs.Post.{Ready, Stands, Placed, Paid, Did, Laid, NoteFits, Patterned}
+use Rattle.compiler.specs.Post.{Ready, Stands, Laid}
 use Rattle.compiler.specs.Pieces as pieces
 use Rattle.compiler.specs.Pieces.{Ends, ends_bare, ends_in, ends_first, ends_of, Noted, Projected, Updating}
-use Rattle.compiler.specs.Common as common
-use Rattle.compiler.specs.Common.{did_of}
-use Rattle.compiler.specs.Moves.{Stored, set-off, set-ers, Keeps, keeps, kept_less, ready-after, ready-part, ready-start, laid_as, number-kept}
-use Rattle.compiler.specs.FormsB.Patterns.{Spare, pat-kept}
+use Rattle.compiler.specs.Moves.{set-ers, keeps, ready-after, ready-part, laid_as, number-kept}
+use Rattle.compiler.specs.FormsB.Patterns.{pat-kept}
 
 -- ---- what stands behind update, in the rule's words
 

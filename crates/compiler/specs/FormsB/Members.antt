@@ -1,29 +1,28 @@
 -- The members of array and object patterns: loops. What is still due is stated by the members that are left: whatever the rules give for them, they give for
 -- all. Assumes nothing.
-use Rattle.std.specs.Prelude.{ℕ, zero, suc, ◌+◌, ◌-◌, ◌*◌, ◌^◌, ◌≤◌, ◌<◌, ◌≡◌, refl, Bool, true, false, cond, List, [], ◌∷◌, ◌++◌, ltb, length, get_or, set, take}
-use Rattle.std.proofs.Common.{add-zero, add-suc, arith, sym, ap, ap₂, subst, ◌∙◌, length-append, ltb-true, ltb-false}
+use Rattle.std.specs.Prelude.{ℕ, suc, ◌+◌, ◌*◌, ◌≤◌, ◌<◌, ◌≡◌, refl, Bool, true, false, List, [], ◌∷◌, ◌++◌, ltb, length, set, take}
+use Rattle.std.proofs.Common.{arith, sym, ap, ap₂, subst, ◌∙◌, ltb-true, ltb-false}
 use Rattle.fields.specs.Number.{number}
 use Rattle.fields.specs.Field.{field}
 use Rattle.fields.specs.Room.{overlay}
-use Rattle.tree.specs.Rose.{rnil, Field, end_of, text_of, Row}
+use Rattle.tree.specs.Rose.{rnil, end_of, Row}
 use Rattle.tree.specs.Form.{f_patterns, f_pat_entries}
-use Rattle.tree.specs.Tree.{Term, Pattern, p_var, p_arr, p_obj, Patterns, ps_nil, ps_cons, PatEntries, pes_nil, pes_cons}
-use Rattle.rules.specs.Table.{Rec, Err, Node, n_int, Pat, pat_var, pat_idx, Pats, pats_nil, pats_cons}
+use Rattle.tree.specs.Tree.{Term, Pattern, Patterns, ps_nil, ps_cons, PatEntries, pes_nil, pes_cons}
+use Rattle.rules.specs.Table.{n_int, Pat, Pats, pats_cons}
 use Rattle.rules.specs.Tails.{empty}
 use Rattle.rules.specs.Rows.{Env}
 use Rattle.rules.specs.Filters.{Top}
 use Rattle.rules.specs.Outs.{Out, slot, size, Made}
-use Rattle.rules.specs.Listing.{node_bytes, rec_bytes, table_bytes}
 use Rattle.rules.specs.Rules.{term, pattern, elements, keyed}
 use Rattle.reads.specs.Bytes.{TermAt, PatternAt}
 use Rattle.reads.specs.Widths.{pat_width, pats_width, keyed_width}
-use Rattle.reads.specs.Parts.{on-pat-var, on-pat-array, on-pat-object, on-patterns-cons, on-patterns-nil, on-keyed-cons, on-keyed-nil, pattern-fits, row-end}
+use Rattle.reads.specs.Parts.{on-patterns-cons, on-patterns-nil, on-keyed-cons, on-keyed-nil, row-end}
 use Rattle.puts.specs.State.{num, off, ers, Put}
 use Rattle.puts.specs.Rooms.{put_then, put-none, put_one}
-use Rattle.cells.specs.Cells.{View, Seen, env_of, number_at, last_at, kind_at}
+use Rattle.cells.specs.Cells.{View, Seen, env_of, number_at, last_at}
 use Rattle.cells.specs.Notes.{lasts_of, notes_in, notes_all, notes_keyed, pat_at, pats_at, keyed_at, places_in, places_all, places_keyed}
 use Rattle.compiler.specs.Post.{Ready, Stands, Paid, Laid, NoteFits, Patterned, Members, Keyed}
-use Rattle.compiler.specs.Moves.{Stored, set_both, Keeps, keeps, kept_less, paid-less, paid-then, paid-wider, ready-after, ready-part, laid_as, NoteIs, number-kept, last-kept, kind-kept}
+use Rattle.compiler.specs.Moves.{Stored, set_both, Keeps, keeps, kept_less, paid-wider, ready-after, ready-part, laid_as, number-kept, last-kept, kind-kept}
 use Rattle.compiler.specs.FormsB.Patterns.{pat-kept, lasts-kept, lasts-append, notes-some, Spare}
 
 -- notes below row j are kept, and more come

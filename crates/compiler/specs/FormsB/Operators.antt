@@ -1,32 +1,31 @@
 -- Operators: BinOp, and Pipe without a pattern. Assumes nothing.
-use Rattle.std.specs.Prelude.{ℕ, zero, suc, ◌+◌, ◌-◌, ◌*◌, ◌^◌, ◌≤◌, ◌<◌, ◌≡◌, refl, Bool, true, false, cond, ◌⊎◌, List, [], ◌∷◌, ◌++◌, eqb, ltb, length, get_or, set, take}
-use Rattle.std.proofs.Common.{arith, sym, ap, ap₂, ◌∙◌, inl, inr, length-append, eqb-true, ltb-true, ne_eqb, eq-eqb}
+use Rattle.std.specs.Prelude.{ℕ, zero, suc, ◌+◌, ◌-◌, ◌≤◌, ◌<◌, ◌≡◌, refl, Bool, true, false, cond, List, [], ◌∷◌, ◌++◌, eqb, ltb, length, get_or, set}
+use Rattle.std.proofs.Common.{arith, sym, ap, ap₂, ◌∙◌, ne_eqb}
 use Rattle.std.proofs.Math.Path.{subst}
-use Rattle.std.proofs.Math.Option.{none, some}
+use Rattle.std.proofs.Math.Option.{none}
 use Rattle.std.specs.Int.Bits.{bit_or}
 use Rattle.fields.specs.Number.{number}
 use Rattle.fields.specs.Field.{field}
 use Rattle.fields.specs.Room.{overlay}
-use Rattle.tree.specs.Rose.{rnil, end_of, Row}
-use Rattle.tree.specs.Leaf.{is_operator, listed}
-use Rattle.tree.specs.Form.{f_opt_pattern}
-use Rattle.tree.specs.Tree.{Term, OptPattern, no_pattern, a_pattern, Pattern, Operator, o_comma, o_alt, o_or, o_and, o_assign, o_update, o_update_alt, o_math, o_update_math, o_cmp, o_none, operator_of, operator, t_bin_op, t_pipe}
-use Rattle.rules.specs.Table.{Rec, Err, Node, n_pipe}
-use Rattle.rules.specs.Tails.{Tail, empty, union}
+use Rattle.tree.specs.Rose.{end_of}
+use Rattle.tree.specs.Leaf.{is_operator}
+use Rattle.tree.specs.Tree.{Term, OptPattern, no_pattern, o_alt, o_or, o_and, o_assign, o_update, o_update_alt, o_math, o_update_math, o_cmp, o_none, operator_of, operator, t_bin_op, t_pipe}
+use Rattle.rules.specs.Table.{Node, n_pipe}
+use Rattle.rules.specs.Tails.{empty, union}
 use Rattle.rules.specs.Rows.{Env}
 use Rattle.rules.specs.Outs.{Out, slot, size, left_allows, right_allows, binary}
 use Rattle.rules.specs.Outs as outs
-use Rattle.rules.specs.Listing.{node_bytes, rec_bytes, table_bytes, opt_pat_bytes}
+use Rattle.rules.specs.Listing.{node_bytes, opt_pat_bytes}
 use Rattle.rules.specs.Rules.{term}
 use Rattle.reads.specs.Bytes.{TermAt}
 use Rattle.reads.specs.Widths.{op_width}
 use Rattle.reads.specs.Lengths.{op-length}
 use Rattle.reads.specs.Parts.{on-no-pattern}
-use Rattle.reads.specs.Shapes.{BinAt, PipeAt, on-binop, on-pipe, operator-at}
-use Rattle.puts.specs.State.{num, off, ers, late, start_of, spot_of, next_of, Put, Own}
+use Rattle.reads.specs.Shapes.{BinAt, PipeAt, on-binop, on-pipe}
+use Rattle.puts.specs.State.{num, off, ers, start_of, spot_of, next_of}
 use Rattle.puts.specs.Rooms.{put_then, put-none, own-node}
 use Rattle.cells.specs.Cells.{View, Seen, env_of}
-use Rattle.compiler.specs.Post.{Ready, Stands, Placed, Paid, Did, Laid}
+use Rattle.compiler.specs.Post.{Ready, Stands, Did, Laid}
 use Rattle.compiler.specs.Common.{Made, did_of, mid-long}
 use Rattle.compiler.specs.Moves.{Stored, set-off, keeps, ready-after, ready-part, ready-start, laid_as}
 

@@ -1,34 +1,34 @@
 -- A Pipe with a pattern: "Order in Pipe: left, right under the pattern variables, then the pattern." Assumes nothing.
-use Rattle.std.specs.Prelude.{ℕ, zero, suc, ◌+◌, ◌-◌, ◌*◌, ◌^◌, ◌≤◌, ◌<◌, ◌≡◌, refl, List, [], ◌∷◌, ◌++◌, length, get_or, set, take}
-use Rattle.std.proofs.Common.{arith, sym, ap, ap₂, subst, ◌∙◌, length-append, length-set}
-use Rattle.std.proofs.Math.Option.{none, some}
+use Rattle.std.specs.Prelude.{ℕ, suc, ◌+◌, ◌*◌, ◌^◌, ◌≤◌, ◌<◌, ◌≡◌, refl, List, ◌++◌, length, get_or, set, take}
+use Rattle.std.proofs.Common.{arith, ap, ap₂, subst, ◌∙◌}
+use Rattle.std.proofs.Math.Option.{some}
 use Rattle.fields.specs.Room.{overlay}
-use Rattle.tree.specs.Rose.{rnil, end_of, Row}
-use Rattle.tree.specs.Tree.{Term, Pattern, OptPattern, no_pattern, a_pattern, t_pipe}
-use Rattle.rules.specs.Table.{Rec, Err, Node, n_pipe, Pat}
+use Rattle.tree.specs.Rose.{end_of}
+use Rattle.tree.specs.Tree.{Term, Pattern, a_pattern, t_pipe}
+use Rattle.rules.specs.Table.{Node, n_pipe, Pat}
 use Rattle.rules.specs.Tails.{empty}
 use Rattle.rules.specs.Rows.{Env, push_vars}
 use Rattle.rules.specs.Outs.{Out, slot, size, vars, Made}
 use Rattle.rules.specs.Outs as outs
-use Rattle.rules.specs.Listing.{node_bytes, rec_bytes, table_bytes}
+use Rattle.rules.specs.Listing.{node_bytes}
 use Rattle.rules.specs.Rules.{term, pattern}
 use Rattle.reads.specs.Bytes.{TermAt, PatternAt}
-use Rattle.reads.specs.Widths.{pat_width, opt_pat_width}
+use Rattle.reads.specs.Widths.{pat_width}
 use Rattle.reads.specs.Lengths.{own-pipe}
-use Rattle.reads.specs.Parts.{on-opt-pattern, pattern-fits}
+use Rattle.reads.specs.Parts.{on-opt-pattern}
 use Rattle.reads.specs.Shapes.{PipeAt, term_fits}
-use Rattle.puts.specs.State.{num, off, ers, late, start_of, spot_of, next_of, Put, Own}
-use Rattle.puts.specs.Rooms.{put_then, put-none, own-node, start-high, spot-within, placed-within}
+use Rattle.puts.specs.State.{num, off, ers, late, start_of, spot_of, next_of, Put}
+use Rattle.puts.specs.Rooms.{put_then, own-node, start-high, spot-within, placed-within}
 use Rattle.cells.specs.Cells.{View, Seen, env_of, closed, Opened, Pushing}
 use Rattle.cells.specs.Leaving.{length-closed}
-use Rattle.cells.specs.Notes.{pat_at, notes_in}
+use Rattle.cells.specs.Notes.{pat_at}
 use Rattle.rows.specs.Opened.{opened-close}
 use Rattle.records.specs.Patterns.{HoldsPat}
-use Rattle.compiler.specs.Post.{Ready, Stands, Placed, Paid, Did, Laid, Patterned}
+use Rattle.compiler.specs.Post.{Ready, Stands, Placed, Did, Laid, Patterned}
 use Rattle.compiler.specs.Pieces.{Under}
 use Rattle.compiler.specs.Common as common
 use Rattle.compiler.specs.Common.{did_of}
-use Rattle.compiler.specs.Moves.{Stored, set-off, Keeps, keeps, kept_less, ready-after, ready-part, ready-start, laid_as}
+use Rattle.compiler.specs.Moves.{Stored, set-off, keeps, ready-after, ready-part, ready-start, laid_as}
 use Rattle.compiler.specs.FormsB.Operators.{on-piped}
 use Rattle.compiler.specs.FormsB.Patterns.{Spare}
 

@@ -1,5 +1,5 @@
 -- A fold as a whole. Assumes nothing.
-use Rattle.std.specs.Prelude.{ℕ, zero, suc, ◌+◌, ◌-◌, ◌*◌, ◌^◌, ◌≤◌, ◌<◌, ◌≡◌, refl, Bool, true, false, cond, List, [], ◌∷◌, ◌++◌, eqb, length, get_or, set, take}
+use Rattle.std.specs.Prelude.{ℕ, suc, ◌+◌, ◌-◌, ◌^◌, ◌≤◌, ◌<◌, ◌≡◌, refl, Bool, true, false, cond, List, [], ◌∷◌, ◌++◌, eqb, length, get_or, set}
 use Rattle.std.proofs.Common.{arith, sym, ap, ap₂, subst, ◌∙◌, append_assoc}
 use Rattle.fields.specs.Number.{number}
 use Rattle.fields.specs.Field.{field}
@@ -7,20 +7,19 @@ use Rattle.fields.specs.Room.{overlay}
 use Rattle.tree.specs.Rose.{rnil, end_of, text_of, Row, row-le}
 use Rattle.tree.specs.Form.{f_terms}
 use Rattle.tree.specs.Tree.{Name, Term, Terms, ts_nil, ts_cons, Pattern, t_fold}
-use Rattle.rules.specs.Table.{Rec, Err, Node, n_id, Pat}
-use Rattle.rules.specs.Tails.{Tail, empty}
+use Rattle.rules.specs.Table.{Rec, Err, n_id, Pat}
+use Rattle.rules.specs.Tails.{empty}
 use Rattle.rules.specs.Rows.{Env, push_vars}
 use Rattle.rules.specs.Outs.{Out, slot, size, vars, Made, arity, leaf}
 use Rattle.rules.specs.Outs as outs
-use Rattle.rules.specs.Listing.{node_bytes, rec_bytes, table_bytes, err_bytes, errs_bytes}
-use Rattle.rules.specs.Rules.{term, pattern, waiting, end_of_fold, out_of_fold, fold_error}
+use Rattle.rules.specs.Listing.{node_bytes, rec_bytes}
+use Rattle.rules.specs.Rules.{term, pattern, out_of_fold, fold_error}
 use Rattle.reads.specs.declared.width.Fold.{Fold}
 use Rattle.reads.specs.Bytes.{TermAt, PatternAt, name_at}
 use Rattle.reads.specs.Widths.{pat_width, fold_kind, fold_width}
 use Rattle.reads.specs.Lengths.{own-fold}
 use Rattle.reads.specs.Folds.{FoldOf}
-use Rattle.reads.specs.Shapes.{FoldAt, on-fold, on-arity-cons, term_fits}
-use Rattle.reads.specs.Parts.{pattern-fits}
+use Rattle.reads.specs.Shapes.{FoldAt, on-fold, on-arity-cons}
 use Rattle.puts.specs.State.{num, off, ers, late, start_of, spot_of, next_of, Put, Own}
 use Rattle.puts.specs.Rooms.{put_then, own-node, own-fail, start-high, spot-within, placed-within}
 use Rattle.cells.specs.Cells.{View, Seen, env_of}
@@ -28,12 +27,12 @@ use Rattle.cells.specs.Notes.{lasts_of, pat_at, places_in, notes_in}
 use Rattle.rows.specs.Kept.{seen-kept}
 use Rattle.records.specs.Patterns.{fold_node, HoldsFold}
 use Rattle.compiler.specs.declared.Updated.{Updated}
-use Rattle.compiler.specs.Post.{Ready, Stands, Placed, Paid, Did, Laid, NoteFits, Patterned}
+use Rattle.compiler.specs.Post.{Ready, Stands, Placed, Did, Laid, Patterned}
 use Rattle.compiler.specs.Pieces as pieces
 use Rattle.compiler.specs.Pieces.{Ends, ends_of, Noted, Updating}
 use Rattle.compiler.specs.Common as common
 use Rattle.compiler.specs.Common.{did_of}
-use Rattle.compiler.specs.Moves.{Stored, set-off, set-ers, Keeps, keeps, kept_less, ready-after, ready-part, ready-start, laid_as, last-kept, number-kept, kind-kept}
+use Rattle.compiler.specs.Moves.{Stored, set-off, set-ers, keeps, kept_less, ready-after, ready-part, ready-start, laid_as, last-kept, number-kept, kind-kept}
 use Rattle.compiler.specs.FormsB.Patterns.{Spare, lasts-kept, pat-kept}
 use Rattle.compiler.specs.FormsB.Folds.{ended, fold-ended, fold-fails, kind-small}
 

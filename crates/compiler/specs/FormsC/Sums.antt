@@ -1,5 +1,5 @@
 -- Sums of a string's parts and of an object's entries: what the rules make of them, in the order in which it is put, and how much that is. Assumes nothing.
-use Rattle.std.specs.Prelude.{ℕ, suc, ◌+◌, ◌-◌, ◌*◌, ◌≤◌, ◌≡◌, List, [], ◌∷◌, ◌++◌, set}
+use Rattle.std.specs.Prelude.{ℕ, suc, ◌+◌, ◌*◌, ◌≤◌, ◌≡◌, List, [], ◌∷◌, ◌++◌, set}
 use Rattle.std.proofs.Common.{arith, sym, ap₂, ◌∙◌, append-nil, length-append, set-set}
 use Rattle.std.proofs.Math.Path.{refl, ap, subst}
 use Rattle.std.proofs.Math.Option.{Option, none, some}

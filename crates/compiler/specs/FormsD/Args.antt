@@ -1,7 +1,7 @@
 -- The arguments of a call: a loop over siblings, each with a note of its number. What is still due is stated by the arguments that are left: whatever the rules
 -- give for them, they give for all. Assumes nothing.
-use Rattle.std.specs.Prelude.{ℕ, zero, suc, ◌+◌, ◌-◌, ◌*◌, ◌^◌, ◌≤◌, ◌<◌, ◌≡◌, refl, List, [], ◌∷◌, ◌++◌, length, get_or, take}
-use Rattle.std.proofs.Common.{arith, add-zero, sym, ap, ap₂, subst, ◌∙◌}
+use Rattle.std.specs.Prelude.{ℕ, suc, ◌+◌, ◌-◌, ◌*◌, ◌≤◌, ◌<◌, ◌≡◌, refl, List, ◌∷◌, length, take}
+use Rattle.std.proofs.Common.{arith, sym, ap, ap₂, subst, ◌∙◌}
 use Rattle.tree.specs.Rose.{rnil, end_of, Row, row-le}
 use Rattle.tree.specs.Tree.{Term, Terms, ts_nil, ts_cons}
 use Rattle.tree.specs.Form.{f_terms}
@@ -10,13 +10,13 @@ use Rattle.rules.specs.Rows.{Env}
 use Rattle.rules.specs.Filters.{Top}
 use Rattle.rules.specs.Outs.{Out, Made, slot, size, arity}
 use Rattle.rules.specs.Rules.{term, args}
-use Rattle.puts.specs.State.{num, off, ers, Put}
+use Rattle.puts.specs.State.{num, Put}
 use Rattle.puts.specs.Rooms.{put-none, put_then}
 use Rattle.reads.specs.Bytes.{TermAt}
-use Rattle.reads.specs.Shapes.{on-arity-cons, on-arity-nil, row-end, term_fits}
+use Rattle.reads.specs.Shapes.{on-arity-cons, on-arity-nil, term_fits}
 use Rattle.cells.specs.Cells.{View, Seen, env_of, noted, number_at}
 use Rattle.cells.specs.Notes.{numbers_of}
-use Rattle.rows.specs.Kept.{below_at, below_less, seen-kept}
+use Rattle.rows.specs.Kept.{below_at, seen-kept}
 use Rattle.rows.specs.Fields.{length-noted, noted-number}
 use Rattle.rows.specs.Pushed.{seen-noted, kept-noted}
 use Rattle.compiler.specs.Post.{Ready, Stands, Paid, Laid, Passed}

@@ -1,34 +1,34 @@
 -- Calls: what is known of the one at p before its arguments are compiled, what each step is ready for, and the rule's record from what was put. A call that the
 -- rules supply. Assumes nothing.
-use Rattle.std.specs.Prelude.{ℕ, zero, suc, ◌+◌, ◌-◌, ◌*◌, ◌^◌, ◌≤◌, ◌<◌, ◌≡◌, refl, ◌⊎◌, Bool, true, false, cond, List, [], ◌∷◌, ◌++◌, eqb, ltb, length, get_or, set, take, drop}
-use Rattle.std.proofs.Common.{arith, add-zero, ap₂, subst, ◌∙◌, inl, inr, append-nil, length-take, length-drop}
+use Rattle.std.specs.Prelude.{ℕ, ◌+◌, ◌-◌, ◌*◌, ◌^◌, ◌≤◌, ◌<◌, ◌≡◌, refl, Bool, true, false, cond, List, [], ◌∷◌, ◌++◌, eqb, ltb, length, get_or, set, take, drop}
+use Rattle.std.proofs.Common.{arith, ap₂, subst, ◌∙◌, length-take, length-drop}
 use Rattle.std.proofs.Math.Path.{sym, ap}
 use Rattle.fields.specs.Number.{number}
-use Rattle.fields.specs.Field.{field, length-field}
+use Rattle.fields.specs.Field.{field}
 use Rattle.fields.specs.Room.{overlay, overlay-none, overlay-out, length-overlay}
-use Rattle.tree.specs.Rose.{Roses, rnil, end_of, text_of, Row, row-le}
+use Rattle.tree.specs.Rose.{Roses, rnil, end_of, text_of, Row}
 use Rattle.tree.specs.Tree.{Term, Terms, t_call}
 use Rattle.tree.specs.Form.{f_terms}
 use Rattle.rules.specs.Names.{Text}
 use Rattle.rules.specs.Table.{Rec, Err, u_mod, u_filter}
-use Rattle.rules.specs.Tails.{Tail, empty}
+use Rattle.rules.specs.Tails.{empty}
 use Rattle.rules.specs.Rows.{Env, count}
-use Rattle.rules.specs.Filters.{Top, home_of, Found, nothing, argument, local, of_module, of_native, meant}
+use Rattle.rules.specs.Filters.{home_of, Found, nothing, argument, local, of_module, of_native, meant}
 use Rattle.rules.specs.Outs.{Out, Made, bare, slot, arity, call_out}
-use Rattle.rules.specs.Listing.{rec_bytes, table_bytes, err_bytes, errs_bytes}
+use Rattle.rules.specs.Listing.{rec_bytes, table_bytes, errs_bytes}
 use Rattle.rules.specs.Rules.{term, args, called}
-use Rattle.puts.specs.State.{num, off, ers, late, start_of, spot_of, next_of, Put, Own}
+use Rattle.puts.specs.State.{num, off, ers, late, start_of, spot_of, next_of, Put}
 use Rattle.puts.specs.Rooms.{kept, long, ers-ers, put_one, put_then, put-errs, own-node, start-high, spot-within, placed-within}
 use Rattle.reads.specs.Bytes.{many, TermAt, name_at}
 use Rattle.reads.specs.Widths.{call_width}
-use Rattle.reads.specs.Shapes.{CallAt, on_call, terms-many, text-length}
+use Rattle.reads.specs.Shapes.{CallAt, on_call, terms-many}
 use Rattle.cells.specs.Cells.{View, Seen, env_of, outer}
 use Rattle.cells.specs.Notes.{numbers_of}
 use Rattle.rows.specs.Kept.{seen-kept, heads-below}
 use Rattle.finds.specs.declared.Found as Hit
-use Rattle.finds.specs.Means.{FoundIs, Means, undefined_kind}
+use Rattle.finds.specs.Means.{FoundIs, Means}
 use Rattle.finds.specs.Under.{call_length, args-made, found-arity, found-width, missing-kind}
-use Rattle.records.specs.Calls.{Callable, CallReady, CallPut, lost_errs, Failed, call-errs}
+use Rattle.records.specs.Calls.{CallReady, CallPut, lost_errs, Failed, call-errs}
 use Rattle.compiler.specs.Post.{Ready, Stands, Placed, Paid, Passed, Did}
 use Rattle.compiler.specs.Calling.{Meaning}
 use Rattle.compiler.specs.Moves.{Stored, set-off, set-ers, set_both, ready-start}

@@ -1,37 +1,36 @@
 -- Definitions: one of them with its parameters and body in view, a row of them, and the term behind them with its own record. Assumes nothing.
-use Prim.Native.Nat.{ℕ, zero, suc, ◌+◌, ◌-◌, ◌*◌, ◌^◌, ◌≤◌, ◌<◌}
+use Prim.Native.Nat.{ℕ, zero, suc, ◌+◌, ◌-◌, ◌*◌, ◌≤◌, ◌<◌}
 use Rattle.std.proofs.Common.{arith, sym, ap₂, subst, ◌∙◌, inl, inr, length-append}
-use Rattle.std.specs.Prelude.{◌≡◌, refl, ◌⊎◌, get_or, set}
+use Rattle.std.specs.Prelude.{◌≡◌, refl, get_or, set}
 use Rattle.std.proofs.Math.Path.{ap}
-use mathlib.Core.List.{List, [], ◌∷◌, ◌++◌}
+use mathlib.Core.List.{List, ◌∷◌}
 use Rattle.std.specs.Int.Bits.{bit_or}
 use Rattle.std.proofs.Math.ListN.{length, take, length-set}
 use Rattle.std.proofs.lemmas.List.{set-get_or}
-use Rattle.tree.specs.Rose.{Roses, rnil, rcons, end_of, text_of, Row, row-le}
+use Rattle.tree.specs.Rose.{rnil, rcons, end_of, text_of, Row}
 use Rattle.tree.specs.Tree.{Name, Term, Defs, ds_nil, ds_cons, Def, def, t_def}
 use Rattle.tree.specs.Form.{f_term, f_defs, f_names}
-use Rattle.rules.specs.Table.{Rec, Err}
-use Rattle.rules.specs.Tails.{Tail, bit, union, sibling}
+use Rattle.rules.specs.Tails.{bit, sibling}
 use Rattle.rules.specs.Rows.{Env, filter, filter_of, level, inside}
 use Rattle.rules.specs.Filters.{Top}
 use Rattle.rules.specs.Outs.{Out, slot, size}
 use Rattle.rules.specs.Listing.{rec_bytes, table_bytes}
 use Rattle.rules.specs.Rules.{Scope, term, defs, body, defined}
 use Rattle.compiler.specs.declared.Run.{Run}
-use Rattle.puts.specs.State.{num, off, ers, late, start_of, next_of, Put, Own}
-use Rattle.puts.specs.Rooms.{put-none, put_then, table-append, own-of-def, start-low, start-high, start-own, start-other}
+use Rattle.puts.specs.State.{num, off, ers, late, start_of, Put, Own}
+use Rattle.puts.specs.Rooms.{put-none, put_then, table-append, own-of-def, start-low, start-own, start-other}
 use Rattle.reads.specs.Bytes.{after, Fields, name_at, names_of, TermAt, DefAt}
-use Rattle.reads.specs.Shapes.{UnderAt, on-def, DefIs, on-the-def, on-def-cons, on-def-nil, length-names, head-fits, term_fits}
+use Rattle.reads.specs.Shapes.{UnderAt, on-def, DefIs, on-the-def, on-def-cons, on-def-nil, length-names, head-fits}
 use Rattle.cells.specs.Cells.{View, Seen, env_of, Opened, Pushing, Room, pushed, closed, unlinked_all, kind_at, head_at}
 use Rattle.cells.specs.Leaving.{length-unlinked-all}
 use Rattle.rows.specs.Kept.{below_at, seen-kept, heads-below}
 use Rattle.rows.specs.Fields.{length-pushed}
-use Rattle.rows.specs.Pushed.{seen-sibling, push-ready, fields-few}
+use Rattle.rows.specs.Pushed.{seen-sibling, push-ready}
 use Rattle.rows.specs.Opened.{opened-none, opened-then, opened-leave, opened-sibling, leave-ready, close-ready}
 use Rattle.finds.specs.Wide.{WidthAt}
-use Rattle.compiler.specs.Post.{Ready, Stands, Placed, Paid, Laid, Did, Defined, Scoped}
+use Rattle.compiler.specs.Post.{Ready, Stands, Placed, Laid, Did, Defined, Scoped}
 use Rattle.compiler.specs.Calling.{Reserved}
-use Rattle.compiler.specs.Moves.{Stored, set-off, kept_less, laid_as}
+use Rattle.compiler.specs.Moves.{Stored, set-off, laid_as}
 use Rattle.compiler.specs.Common as common
 use Rattle.compiler.specs.Common.{did_of}
 

@@ -1,19 +1,18 @@
 -- What a call means: it is found among the rows in view, so it stays found when rows above them change; a module's definition returns at most itself; the error
 -- of a call is one of its module and arity. Assumes nothing.
-use Rattle.std.specs.Prelude.{ℕ, zero, suc, ◌+◌, ◌-◌, ◌*◌, ◌≤◌, ◌<◌, ◌≡◌, refl, ◌⊎◌, Bool, true, false, cond, ◌&&◌, eqb, length, get_or, take}
-use Rattle.std.proofs.Common.{arith, sym, ap, subst, ◌∙◌, inl, inr, length-take, get_or-take, length-take-le}
+use Rattle.std.specs.Prelude.{ℕ, zero, suc, ◌+◌, ◌*◌, ◌≤◌, ◌<◌, ◌≡◌, refl, ◌&&◌, eqb, length, get_or, take}
+use Rattle.std.proofs.Common.{arith, sym, ap, subst, ◌∙◌, inl, inr, get_or-take, length-take-le}
 use Rattle.std.proofs.Math.Option.{Option, none, some}
-use mathlib.Core.List.{List, [], ◌∷◌, ◌++◌}
-use Rattle.tree.specs.Rose.{end_of}
-use Rattle.tree.specs.Tree.{Name, Number, Native}
+use mathlib.Core.List.{List, [], ◌∷◌}
+use Rattle.tree.specs.Tree.{Number, Native}
 use Rattle.fields.specs.Number.{value}
 use Rattle.rules.specs.Names.{Text, same, Parted, plain, parted, parting}
-use Rattle.rules.specs.Table.{u_mod, u_filter, Err}
+use Rattle.rules.specs.Table.{Err}
 use Rattle.rules.specs.Lists.{Every, either}
-use Rattle.rules.specs.Rows.{Env, Row, var, label, arg, filter, Filter, count, level}
+use Rattle.rules.specs.Rows.{Env, var, label, arg, filter, Filter, count, level}
 use Rattle.rules.specs.Filters.{Top, home_of, Found, nothing, argument, local, of_module, of_native, later, fits, find, definition, in_module, included, native_of, found_within, found_else, filter_named, import_named, import_meant, part_meant, meant, or_else}
 use Rattle.rules.specs.Returns.{Lone}
-use Rattle.cells.specs.Cells.{View, Seen, env_of, outer, cell, kind_at, arity_at, place_at, before_at}
+use Rattle.cells.specs.Cells.{View, Seen, env_of, outer, cell}
 use Rattle.rows.specs.Same.{Rows, Order, order-of, based-same, env-same, view-same, goods-same, linked-same, local_same}
 use Rattle.rows.specs.Kept.{below_at, heads-below, fixed-below}
 use Rattle.finds.specs.declared.Found as Hit

@@ -2,7 +2,6 @@
 use mathlib.Core.Path.{refl}
 use native.Mathlib.Omega.{arith}
 use Rattle.finds.proofs.Seeks.{imports-fit, passing-start, passing-fit, passing-more, passing-done, viewed-low}
-use Prim.Native.Nat.{◌-◌}
 use Rattle.finds.proofs.import.Goals as goal
 
 pub bounds-rows-4 : goal.bounds-rows-4

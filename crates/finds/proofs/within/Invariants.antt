@@ -1,4 +1,3 @@
-use Prim.Native.Nat.{◌-◌}
 use Rattle.finds.proofs.Seeks.{Downing}
 use Rattle.finds.proofs.within.Given as goal
 

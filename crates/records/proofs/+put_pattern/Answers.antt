@@ -1,4 +1,3 @@
-use Prim.Native.Nat.{◌-◌}
 use native.Mathlib.Omega.{arith}
 use Rattle.reads.specs.Shapes.{pattern-fits}
 use Rattle.records.proofs.Pats.{notes-some, width_some, members-of, var-put, begin, next, again, finish}

@@ -1,5 +1,4 @@
 -- `records::elses` meets its contract: after each turn the pairs from row j on have their records, the last one first. Assumes nothing.
-use Prim.Native.Nat.{◌-◌}
 use native.Mathlib.Omega.{arith}
 use Rattle.records.proofs.Elsing.{begin, turn, finish}
 use Rattle.records.proofs.elses.Goals as goal

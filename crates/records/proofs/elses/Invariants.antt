@@ -1,4 +1,3 @@
-use Prim.Native.Nat.{◌-◌}
 use Rattle.records.proofs.Elsing.{Turning}
 use Rattle.records.proofs.elses.Given as goal
 

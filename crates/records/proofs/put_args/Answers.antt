@@ -1,5 +1,4 @@
 -- `records::put_args` meets its contract: after i turns what is left are the arguments from the i-th on. Assumes nothing.
-use Prim.Native.Nat.{◌-◌}
 use native.Mathlib.Omega.{arith}
 use Rattle.records.proofs.Calling.{begin, next_fits, again, finish}
 use borrow.Author.Rules.{rules}

@@ -1,5 +1,4 @@
 -- `records::put_parts` meets its contract: after each turn what is left are the parts from p on. Assumes nothing.
-use Prim.Native.Nat.{◌-◌}
 use native.Mathlib.Omega.{arith}
 use Rattle.records.proofs.Paths.{begin, next, again, finish}
 use borrow.Author.Rules.{rules}

@@ -1,5 +1,4 @@
 use mathlib.Core.Path.{refl}
-use Prim.Native.Nat.{◌-◌}
 use native.Mathlib.Omega.{arith}
 use Rattle.rows.proofs.Patterns.{some_fits, var-ready, var-bound, going_start, going_next, going-ready, going_on, going_done, going_less}
 use Rattle.rows.proofs.+bind_vars.Goals as goal

@@ -1,5 +1,4 @@
 -- `rows::bind_notes`: one note a turn. Assumes nothing.
-use Prim.Native.Nat.{◌-◌}
 use Rattle.rows.proofs.Notes.{noting-start, noting-ready, noting-more, noting-done, noted_of}
 use Rattle.rows.proofs.bind_notes.Goals as goal
 

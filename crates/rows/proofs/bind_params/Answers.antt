@@ -1,5 +1,4 @@
 -- `rows::bind_params`: one parameter a turn. Assumes nothing.
-use Prim.Native.Nat.{◌-◌}
 use Rattle.rows.proofs.Params.{passing-start, passing-name, passing-ready, passing-more, passing-done}
 use Rattle.rows.proofs.bind_params.Goals as goal
 

@@ -1,6 +1,5 @@
 -- `finds::under::body_of` meets its contract: past the definitions of one term after the other. Assumes nothing.
 use Rattle.finds.proofs.Unders.{bodying-start, bodying-fits, bodying-opens, bodying-less, bodying-more, bodying-done}
-use Prim.Native.Nat.{◌-◌}
 use native.Mathlib.Omega.{arith}
 use Rattle.finds.proofs.under.body_of.Goals as goal
 

@@ -1,6 +1,5 @@
 -- `finds::under::declares` meets its contract: one definition after the other. Assumes nothing.
 use Rattle.finds.proofs.Unders.{declaring-start, declaring-fits, declaring-one, declaring-end, declaring-found, declaring-more, declaring-done}
-use Prim.Native.Nat.{◌-◌}
 use native.Mathlib.Omega.{arith}
 use Rattle.finds.proofs.under.declares.Goals as goal
 

@@ -1,6 +1,5 @@
 -- `finds::under::defines` meets its contract: the definitions of one term after the other. Assumes nothing.
 use Rattle.finds.proofs.Unders.{defining-start, defining-fits, defining-opens, defining-found, defining-less, defining-more, defining-done}
-use Prim.Native.Nat.{◌-◌}
 use native.Mathlib.Omega.{arith}
 use Rattle.finds.proofs.under.defines.Goals as goal
 

@@ -1,6 +1,5 @@
 -- `finds::under::own_width` meets its contract: by the tag of the term. Assumes nothing.
 use lib.ListN.{get_or}
-use mathlib.Core.Logic.{⊎_elim}
 use mathlib.Core.Path.{◌≡◌}
 use Rattle.finds.proofs.Widths.{under-own, under-break, under-var, ite-wide, num-wide, try-wide, fold-wide, two-wide, three-wide, obj-wide, obj-entries, last-tag}
 use Rattle.reads.specs.Shapes.{term_fits, term-tag}

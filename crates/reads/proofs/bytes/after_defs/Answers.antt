@@ -1,6 +1,5 @@
 -- `after_defs` meets its contract. Assumes nothing.
 use native.Mathlib.Omega.{arith}
-use Prim.Native.Nat.{◌-◌}
 use Rattle.reads.proofs.Rows.{skip-start, skip-fits, skip-more, skip-done}
 use Rattle.reads.proofs.bytes.after_defs.Goals as goal
 

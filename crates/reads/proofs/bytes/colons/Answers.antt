@@ -1,5 +1,4 @@
 -- `colons` meets its contract. Assumes nothing.
-use Prim.Native.Nat.{◌-◌}
 use Rattle.reads.proofs.Colons.{without-start, without_all, colons-found, colons-next}
 use borrow.Author.Rules.{rules}
 use Rattle.reads.proofs.bytes.colons.Goals as goal

@@ -1,6 +1,5 @@
 -- `members` meets its contract. Assumes nothing.
 use native.Mathlib.Omega.{arith}
-use Prim.Native.Nat.{◌-◌}
 use Rattle.reads.proofs.Rows.{count-start, count_fits, count-more, count-done}
 use Rattle.reads.proofs.bytes.members.Goals as goal
 

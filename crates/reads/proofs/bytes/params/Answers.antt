@@ -1,6 +1,5 @@
 -- `params` meets its contract. Assumes nothing.
 use native.Mathlib.Omega.{arith}
-use Prim.Native.Nat.{◌-◌}
 use Rattle.reads.proofs.Rows.{pass-start, pass_fits, pass-more, pass-done}
 use Rattle.reads.proofs.bytes.params.Goals as goal
 

@@ -1,6 +1,5 @@
 -- `same` meets its contract. Assumes nothing.
 use mathlib.Core.Path.{refl}
-use Prim.Native.Nat.{◌-◌}
 use Rattle.reads.proofs.Texts.{same_next, same_differs, same_ends}
 use borrow.Author.Rules.{rules}
 use Rattle.reads.proofs.bytes.same.Goals as goal

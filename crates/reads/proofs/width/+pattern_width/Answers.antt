@@ -2,7 +2,7 @@ use Rattle.tree.specs.Rose.{end_of}
 use Rattle.reads.specs.Bytes.{PatternAt}
 use native.Mathlib.Omega.{arith}
 use mathlib.Core.Path.{refl, sym, ap, subst}
-use Prim.Native.Nat.{ℕ, ◌-◌}
+use Prim.Native.Nat.{ℕ}
 use Rattle.reads.proofs.Widening.{width-var, width-start, width-sub, width-more, width-done, width_room}
 use Rattle.reads.specs.Parts.{pattern-fits}
 use Prim.Native.Nat.{ℕ}

@@ -1,7 +1,6 @@
 -- `int_of` meets its contract. Assumes nothing.
 use native.Mathlib.Omega.{arith}
 use mathlib.Core.Path.{refl}
-use Prim.Native.Nat.{◌-◌}
 use Rattle.reads.proofs.Ints.{int-none, int-start, int-below, int-above, int-over, int-next, int-done}
 use Rattle.reads.proofs.width.int_of.Goals as goal
 

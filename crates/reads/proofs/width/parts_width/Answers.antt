@@ -1,7 +1,6 @@
 -- `parts_width` meets its contract. Assumes nothing.
 use Rattle.reads.proofs.Partings.{add_start, add-part, add-fits, add-more, add_done, add-room}
 use native.Mathlib.Omega.{arith}
-use Prim.Native.Nat.{◌-◌}
 use Rattle.reads.proofs.width.parts_width.Goals as goal
 
 pub loop-p-init : goal.loop-p-init
