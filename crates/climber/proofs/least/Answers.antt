@@ -9,7 +9,7 @@ pub overflow_sub-result : goal.overflow_sub-result
 overflow_sub-result c = omega (arith, c.requires.0.sides c.args.i)
 
 pub overflow_add-result : goal.overflow_add-result
-overflow_add-result c = omega (arith, c.shared_slice_known-1.given (2 * c.args.i), c.shared_slice_known-2-1.given (2 * c.args.i + 1))
+overflow_add-result c = omega (arith, c.type_inv.row (2 * c.args.i), c.type_inv.row (2 * c.args.i + 1))
 
 pub returns : goal.returns
 unfolding least

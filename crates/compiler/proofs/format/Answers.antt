@@ -7,55 +7,47 @@ use Rattle.compiler.proofs.format.Goals as goal
 
 pub overflow_add-p : goal.overflow_add-p
 overflow_add-p c =
-    let s = c in
-    let b = s.args.tree.now in
-    let f = format-fits b s.args.p s.args.q s.requires.2 c.if-p-q.true in
-    omega (arith, f, s.requires.3)
+    let b = c.args.tree.now in
+    let f = format-fits b c.args.p c.args.q c.requires.2 c.if-p-q.true in
+    omega (arith, f, c.requires.3)
 
 pub slice_bounds-supplied-count : goal.slice_bounds-supplied-count
 slice_bounds-supplied-count c =
-    let s = c in
-    let b = s.args.tree.now in
-    let f = format-fits b s.args.p s.args.q s.requires.2 c.if-p-q.true in
-    omega (arith, f, s.requires.3)
+    let b = c.args.tree.now in
+    let f = format-fits b c.args.p c.args.q c.requires.2 c.if-p-q.true in
+    omega (arith, f, c.requires.3)
 
 pub slice_bounds-supplied-start : goal.slice_bounds-supplied-start
 slice_bounds-supplied-start c =
-    let s = c in
-    let b = s.args.tree.now in
-    let f = format-fits b s.args.p s.args.q s.requires.2 c.if-p-q.true in
-    omega (arith, f, s.requires.3)
+    let b = c.args.tree.now in
+    let f = format-fits b c.args.p c.args.q c.requires.2 c.if-p-q.true in
+    omega (arith, f, c.requires.3)
 
 pub slice_bounds-supplied-end : goal.slice_bounds-supplied-end
 slice_bounds-supplied-end c =
-    let s = c in
-    let b = s.args.tree.now in
-    let f = format-fits b s.args.p s.args.q s.requires.2 c.if-p-q.true in
-    omega (arith, f, s.requires.3)
+    let b = c.args.tree.now in
+    let f = format-fits b c.args.p c.args.q c.requires.2 c.if-p-q.true in
+    omega (arith, f, c.requires.3)
 
 pub overflow_add-p-then-p-q : goal.overflow_add-p-then-p-q
 overflow_add-p-then-p-q c =
-    let s = c in
-    let b = s.args.tree.now in
-    let f = format-fits b s.args.p s.args.q s.requires.2 c.if-p-q.true in
-    omega (arith, f, s.requires.3)
+    let b = c.args.tree.now in
+    let f = format-fits b c.args.p c.args.q c.requires.2 c.if-p-q.true in
+    omega (arith, f, c.requires.3)
 
 pub supplied-requires : goal.supplied-requires
 supplied-requires c =
-    let s = c in
-    let b = s.args.tree.now in
-    let f = format-fits b s.args.p s.args.q s.requires.2 c.if-p-q.true in
-    (s.requires.0, s.requires.1, s.requires.3, format-long b s.args.p s.args.q s.requires.2 c.if-p-q.true s.requires.3, omega (arith, f, s.requires.3), omega (arith, s.requires.4), omega (arith, s.requires.5), omega (arith, s.requires.6))
+    let b = c.args.tree.now in
+    let f = format-fits b c.args.p c.args.q c.requires.2 c.if-p-q.true in
+    (c.requires.0, c.requires.1, c.requires.3, format-long b c.args.p c.args.q c.requires.2 c.if-p-q.true c.requires.3, omega (arith, f, c.requires.3), omega (arith, c.requires.4), omega (arith, c.requires.5), omega (arith, c.requires.6))
 
 pub returns-then-p-q : goal.returns-then-p-q
 returns-then-p-q c =
-    let s = c in
-    let b = s.args.tree.now in
-    let f = format-fits b s.args.p s.args.q s.requires.2 c.if-p-q.true in
+    let b = c.args.tree.now in
+    let f = format-fits b c.args.p c.args.q c.requires.2 c.if-p-q.true in
     let e = c.supplied.ensures in
-    format-call _ _ _ _ _ _ _ _ _ _ c.if-p-q.true (text-slice b s.args.p s.args.q f.0) refl e.0 e.1 e.2 e.3
+    format-call _ _ _ _ _ _ _ _ _ _ c.if-p-q.true (text-slice b c.args.p c.args.q f.0) refl e.0 e.1 e.2 e.3
 
 pub returns : goal.returns
 returns c =
-    let s = c in
-    format-bare _ _ _ _ _ _ _ _ _ c.if-p-q.false s.requires.0 c.insert.ensures.0 c.insert.ensures.1 c.put_bare.ensures
+    format-bare _ _ _ _ _ _ _ _ _ c.if-p-q.false c.requires.0 c.insert.ensures.0 c.insert.ensures.1 c.put_bare.ensures

@@ -6,12 +6,11 @@ use Rattle.compiler.proofs.meaning.Goals as goal
 
 pub slice_bounds-call-end : goal.slice_bounds-call-end
 slice_bounds-call-end c =
-    let s = c in sym (length-take-le (4 * s.args.k) s.args.rows.now s.requires.0.1.within)
+    sym (length-take-le (4 * c.args.k) c.args.rows.now c.requires.0.1.within)
 
 pub call-requires : goal.call-requires
 call-requires c =
-    let s = c in
-    let v = s.requires.0 in ((v.0, s.args.k, (seen-cut v.0 _ _ _ v.1).0), s.requires.1, s.requires.2, s.requires.3)
+    let v = c.requires.0 in ((v.0, c.args.k, (seen-cut v.0 _ _ _ v.1).0), c.requires.1, c.requires.2, c.requires.3)
 
 pub returns : goal.returns
 returns c =

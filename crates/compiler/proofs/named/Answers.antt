@@ -5,49 +5,42 @@ use Rattle.compiler.proofs.named.Goals as goal
 
 pub find-j-requires : goal.find-j-requires
 find-j-requires c =
-    let s = c in
-    let y = s.requires.0.1 in
-    let f = asks.stands-fits _ _ s.requires.1 in
-    ((y.view, s.requires.0.0, y.seen), omega (arith, leaves.part_length s.args.tree.now s.args.p c.end_of-z.result c.end_of-z.ensures f, y.small, f), leaves.class-small _ _ _ s.requires.3)
+    let y = c.requires.0.1 in
+    let f = asks.stands-fits _ _ c.requires.1 in
+    ((y.view, c.requires.0.0, y.seen), omega (arith, leaves.part_length c.args.tree.now c.args.p c.end_of-z.result c.end_of-z.ensures f, y.small, f), leaves.class-small _ _ _ c.requires.3)
 
 pub bare-requires : goal.bare-requires
 bare-requires c =
-    let s = c in
-    let y = s.requires.0.1 in
-    let f = asks.stands-fits _ _ s.requires.1 in
-    asks.lost-fits _ _ _ _ _ _ _ _ _ y s.requires.2 c.insert_error.ensures.1
+    let y = c.requires.0.1 in
+    let f = asks.stands-fits _ _ c.requires.1 in
+    asks.lost-fits _ _ _ _ _ _ _ _ _ y c.requires.2 c.insert_error.ensures.1
 
 pub returns-then-j-eq0 : goal.returns-then-j-eq0
 returns-then-j-eq0 c =
-    let s = c in
-    let y = s.requires.0.1 in
-    let f = asks.stands-fits _ _ s.requires.1 in
-    λ k al. leaves.lost-code _ _ _ _ _ _ _ _ _ _ _ _ _ _ _ _ _ al s.requires.3 y.three (omega (arith, y.offs)) c.end_of-z.ensures f c.find-j.ensures c.if-j-eq0.true c.insert_error.ensures c.put_error.ensures c.bare.ensures
+    let y = c.requires.0.1 in
+    let f = asks.stands-fits _ _ c.requires.1 in
+    λ k al. leaves.lost-code _ _ _ _ _ _ _ _ _ _ _ _ _ _ _ _ _ al c.requires.3 y.three (omega (arith, y.offs)) c.end_of-z.ensures f c.find-j.ensures c.if-j-eq0.true c.insert_error.ensures c.put_error.ensures c.bare.ensures
 
 pub alone-requires : goal.alone-requires
 alone-requires c =
-    let s = c in
-    let y = s.requires.0.1 in
-    let f = asks.stands-fits _ _ s.requires.1 in
-    asks.alone-fits _ _ _ _ _ _ _ _ y s.requires.2 (omega arith)
+    let y = c.requires.0.1 in
+    let f = asks.stands-fits _ _ c.requires.1 in
+    asks.alone-fits _ _ _ _ _ _ _ _ y c.requires.2 (omega arith)
 
 pub index-requires : goal.index-requires
 index-requires c =
-    let s = c in
-    let y = s.requires.0.1 in
-    let f = asks.stands-fits _ _ s.requires.1 in
-    leaves.named-index _ _ _ _ _ y.view s.requires.0.0 y.seen c.find-j.ensures c.if-j-eq0.false
+    let y = c.requires.0.1 in
+    let f = asks.stands-fits _ _ c.requires.1 in
+    leaves.named-index _ _ _ _ _ y.view c.requires.0.0 y.seen c.find-j.ensures c.if-j-eq0.false
 
 pub put_one-requires : goal.put_one-requires
 put_one-requires c =
-    let s = c in
-    let y = s.requires.0.1 in
-    let f = asks.stands-fits _ _ s.requires.1 in
-    asks.alone-spot _ _ _ s.args.st.now s.requires.2 (omega (arith, y.offs)) (omega arith) c.alone.ensures.0
+    let y = c.requires.0.1 in
+    let f = asks.stands-fits _ _ c.requires.1 in
+    asks.alone-spot _ _ _ c.args.st.now c.requires.2 (omega (arith, y.offs)) (omega arith) c.alone.ensures.0
 
 pub returns : goal.returns
 returns c =
-    let s = c in
-    let y = s.requires.0.1 in
-    let f = asks.stands-fits _ _ s.requires.1 in
-    λ k al. leaves.var-code _ _ _ _ _ _ _ _ _ _ _ _ _ _ _ al s.requires.3 y.three (omega (arith, y.offs)) c.end_of-z.ensures c.find-j.ensures c.if-j-eq0.false c.index.ensures c.alone.ensures c.put_one.ensures
+    let y = c.requires.0.1 in
+    let f = asks.stands-fits _ _ c.requires.1 in
+    λ k al. leaves.var-code _ _ _ _ _ _ _ _ _ _ _ _ _ _ _ al c.requires.3 y.three (omega (arith, y.offs)) c.end_of-z.ensures c.find-j.ensures c.if-j-eq0.false c.index.ensures c.alone.ensures c.put_one.ensures

@@ -5,53 +5,44 @@ use Rattle.compiler.proofs.num.Goals as goal
 
 pub end_of-z-requires : goal.end_of-z-requires
 end_of-z-requires c =
-    let s = c in
-    let f = asks.stands-fits _ _ s.requires.1 in
+    let f = asks.stands-fits _ _ c.requires.1 in
     f
 
 pub slice_bounds-int_of-end : goal.slice_bounds-int_of-end
 slice_bounds-int_of-end c =
-    let s = c in
-    let f = asks.stands-fits _ _ s.requires.1 in
+    let f = asks.stands-fits _ _ c.requires.1 in
     omega (arith, f, c.end_of-z.ensures)
 
 pub alone-requires : goal.alone-requires
 alone-requires c =
-    let s = c in
-    let f = asks.stands-fits _ _ s.requires.1 in
-    asks.alone-small _ _ s.args.st.now s.requires.0 s.requires.2 s.requires.5 (omega arith)
+    let f = asks.stands-fits _ _ c.requires.1 in
+    asks.alone-small _ _ c.args.st.now c.requires.0 c.requires.2 c.requires.5 (omega arith)
 
 pub put_int-requires : goal.put_int-requires
 put_int-requires c =
-    let s = c in
-    let f = asks.stands-fits _ _ s.requires.1 in
-    asks.alone-spot _ _ _ s.args.st.now s.requires.2 s.requires.5 (omega arith) c.alone.ensures.0
+    let f = asks.stands-fits _ _ c.requires.1 in
+    asks.alone-spot _ _ _ c.args.st.now c.requires.2 c.requires.5 (omega arith) c.alone.ensures.0
 
 pub returns-then-v-lt-NO_INT : goal.returns-then-v-lt-NO_INT
 returns-then-v-lt-NO_INT c =
-    let s = c in
-    λ x k al. leaves.int-code _ _ _ _ _ _ _ _ _ _ _ _ al s.requires.3 s.requires.0 (omega (arith, s.requires.5)) c.end_of-z.ensures c.int_of-v.ensures c.if-v-lt-NO_INT.true c.alone.ensures c.put_int.ensures
+    λ x k al. leaves.int-code _ _ _ _ _ _ _ _ _ _ _ _ al c.requires.3 c.requires.0 (omega (arith, c.requires.5)) c.end_of-z.ensures c.int_of-v.ensures c.if-v-lt-NO_INT.true c.alone.ensures c.put_int.ensures
 
 pub alone-requires-2 : goal.alone-requires-2
 alone-requires-2 c =
-    let s = c in
-    let f = asks.stands-fits _ _ s.requires.1 in
-    asks.alone-small _ _ s.args.st.now s.requires.0 s.requires.2 s.requires.5 (omega (arith, f, c.end_of-z.ensures, s.requires.4))
+    let f = asks.stands-fits _ _ c.requires.1 in
+    asks.alone-small _ _ c.args.st.now c.requires.0 c.requires.2 c.requires.5 (omega (arith, f, c.end_of-z.ensures, c.requires.4))
 
 pub slice_bounds-put_text-end : goal.slice_bounds-put_text-end
 slice_bounds-put_text-end c =
-    let s = c in
-    let f = asks.stands-fits _ _ s.requires.1 in
+    let f = asks.stands-fits _ _ c.requires.1 in
     omega (arith, f, c.end_of-z.ensures)
 
 pub put_text-requires : goal.put_text-requires
 put_text-requires c =
-    let s = c in
-    let f = asks.stands-fits _ _ s.requires.1 in
-    asks.text-fits s.args.tree.now s.args.p _ _ _ s.args.st.now s.requires.2 s.requires.5 c.end_of-z.ensures f s.requires.4 c.alone-2.ensures.0
+    let f = asks.stands-fits _ _ c.requires.1 in
+    asks.text-fits c.args.tree.now c.args.p _ _ _ c.args.st.now c.requires.2 c.requires.5 c.end_of-z.ensures f c.requires.4 c.alone-2.ensures.0
 
 pub returns : goal.returns
 returns c =
-    let s = c in
-    let f = asks.stands-fits _ _ s.requires.1 in
-    λ x k al. leaves.num-code _ _ _ _ _ _ _ _ _ _ _ _ al s.requires.3 s.requires.0 (omega (arith, s.requires.5)) c.end_of-z.ensures c.int_of-v.ensures c.if-v-lt-NO_INT.false f c.alone-2.ensures c.put_text.ensures
+    let f = asks.stands-fits _ _ c.requires.1 in
+    λ x k al. leaves.num-code _ _ _ _ _ _ _ _ _ _ _ _ al c.requires.3 c.requires.0 (omega (arith, c.requires.5)) c.end_of-z.ensures c.int_of-v.ensures c.if-v-lt-NO_INT.false f c.alone-2.ensures c.put_text.ensures

@@ -37,4 +37,4 @@ pub returns-in-4 : goal.returns-in-4
 returns-in-4 c = let a = c.args in local-sibling a.tree.now a.rows.now a.x.now a.at a.a c.requires.1 c.word-w.result c.key-u.result c.head_of-h.result c.seek-j.result c.word-w.ensures c.key-u.ensures.0 c.head_of-h.ensures.0 c.head_of-h.ensures.1 c.head_of-h.ensures.2 c.seek-j.ensures c.if-j-eq0.false c.kind-k.result c.kind-k.ensures c.in-4.is c.row-in-4.result c.row-in-4.ensures
 
 pub returns-in_default : goal.returns-in_default
-returns-in_default c = let a = c.args in let k = c.in_default.in_default-own.rest in local-native a.tree.now a.rows.now a.x.now a.at a.a c.requires.1 c.word-w.result c.key-u.result c.head_of-h.result c.seek-j.result c.word-w.ensures c.key-u.ensures.0 c.head_of-h.ensures.0 c.head_of-h.ensures.1 c.head_of-h.ensures.2 c.seek-j.ensures c.if-j-eq0.false c.kind-k.result c.kind-k.ensures k.0.0.1 k.0.1 k.1 c.included-in_default.result c.included-in_default.ensures c.row-in_default.result c.outside-in_default.result c.row-in_default.ensures c.outside-in_default.ensures
+returns-in_default c = let a = c.args in local-native a.tree.now a.rows.now a.x.now a.at a.a c.requires.1 c.word-w.result c.key-u.result c.head_of-h.result c.seek-j.result c.word-w.ensures c.key-u.ensures.0 c.head_of-h.ensures.0 c.head_of-h.ensures.1 c.head_of-h.ensures.2 c.seek-j.ensures c.if-j-eq0.false c.kind-k.result c.kind-k.ensures (λ e. omega arith) (λ e. omega arith) (λ e. omega arith) c.included-in_default.result c.included-in_default.ensures c.row-in_default.result c.outside-in_default.result c.row-in_default.ensures c.outside-in_default.ensures

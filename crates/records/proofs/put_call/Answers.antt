@@ -10,7 +10,7 @@ pub put_native-requires : goal.put_native-requires
 put_native-requires c = native-ready _ _ _ _ _ _ c.requires c.in-6.is
 
 pub put_jump-requires : goal.put_jump-requires
-put_jump-requires c = jump-ready _ _ _ _ _ _ c.requires (λ h. omega (arith, h, c.in_default.if-kind-lt2-own.false)) c.in_default.in_default-own.rest.0.1 c.in_default.in_default-own.rest.1
+put_jump-requires c = jump-ready _ _ _ _ _ _ c.requires (λ h. omega arith) (λ e. omega arith) (λ e. omega arith)
 
 pub returns-in-2 : goal.returns-in-2
 returns-in-2 c = call-argument _ _ _ _ _ _ _ _ _ _ c.in-2.is c.index.ensures c.put_one.ensures
@@ -19,7 +19,7 @@ pub returns-in-6 : goal.returns-in-6
 returns-in-6 c = call-native _ _ _ _ _ _ _ _ _ c.in-6.is c.put_native.ensures
 
 pub returns-in-0 : goal.returns-in-0
-returns-in-0 c = call-lost _ _ _ _ _ _ _ _ _ (omega (arith, c.in-0.if-kind-lt2-own.true)) c.put_bare.ensures
+returns-in-0 c = call-lost _ _ _ _ _ _ _ _ _ (omega arith) c.put_bare.ensures
 
 pub returns-in_default : goal.returns-in_default
-returns-in_default c = call-jump _ _ _ _ _ _ _ _ _ _ (λ h. omega (arith, h, c.in_default.if-kind-lt2-own.false)) c.in_default.in_default-own.rest.0.1 c.in_default.in_default-own.rest.1 c.put_jump.ensures.0 c.put_jump.ensures.1
+returns-in_default c = call-jump _ _ _ _ _ _ _ _ _ _ (λ h. omega arith) (λ e. omega arith) (λ e. omega arith) c.put_jump.ensures.0 c.put_jump.ensures.1

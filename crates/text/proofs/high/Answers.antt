@@ -13,10 +13,10 @@ unfolding highs
 loop-k-init c = search rules
 
 pub overflow_add-n-in-loop-k : goal.overflow_add-n-in-loop-k
-overflow_add-n-in-loop-k c = omega (arith, c.shared_slice_known-1.given (c.args.at + c.loop-k.k))
+overflow_add-n-in-loop-k c = omega (arith, c.type_inv.s (c.args.at + c.loop-k.k))
 
 pub loop-k-preserved : goal.loop-k-preserved
-loop-k-preserved c = let l = c.loop-k in let a = c.args in let h = c.shared_slice_known-1.given (c.args.at + c.loop-k.k) in (highs-more a.s.now a.at l.n l.k l.invariant.0, omega arith, omega arith)
+loop-k-preserved c = let l = c.loop-k in let a = c.args in let h = c.type_inv.s (c.args.at + c.loop-k.k) in (highs-more a.s.now a.at l.n l.k l.invariant.0, omega arith, omega arith)
 
 pub returns : goal.returns
 returns c = let l = c.loop-k in let e : l.k ≡ 128 = omega arith in l.invariant.0 ∙ ap (highs c.args.s.now c.args.at) e

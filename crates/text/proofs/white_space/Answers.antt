@@ -16,19 +16,19 @@ returns-in-8192-to-8202 c = inside spaces 5 c.args.c (omega arith)
 
 pub returns-in_default : goal.returns-in_default
 unfolding white_space spaces
-returns-in_default c = not-space c.args.c c.in_default.in_default-own.rest.1 (omega arith) (omega arith) (omega arith)
+returns-in_default c = not-space c.args.c (λ e. grind arith) (omega arith) (omega arith) (omega arith)
 
 pub returns-in_default-2 : goal.returns-in_default-2
 unfolding white_space spaces
-returns-in_default-2 c = not-space c.args.c c.in_default.in_default-own.rest.1 (omega arith) (omega arith) (omega arith)
+returns-in_default-2 c = not-space c.args.c (λ e. grind arith) (omega arith) (omega arith) (omega arith)
 
 pub returns-in_default-3 : goal.returns-in_default-3
 unfolding white_space spaces
-returns-in_default-3 c = not-space c.args.c c.in_default.in_default-own.rest.1 (omega arith) (omega arith) (omega arith)
+returns-in_default-3 c = not-space c.args.c (λ e. grind arith) (omega arith) (omega arith) (omega arith)
 
 pub returns-in_default-4 : goal.returns-in_default-4
 unfolding white_space spaces
-returns-in_default-4 c = not-space c.args.c c.in_default.in_default-own.rest.1 (omega arith) (omega arith) (omega arith)
+returns-in_default-4 c = not-space c.args.c (λ e. grind arith) (omega arith) (omega arith) (omega arith)
 
 pub returns-in-32 : goal.returns-in-32
 unfolding white_space spaces

@@ -25,10 +25,10 @@ pub bounds-b-q-in-loop-q : goal.bounds-b-q-in-loop-q
 bounds-b-q-in-loop-q c = omega (arith, (room_at c.args.b.now _ _ _ c.loop-q-test.true c.loop-q.invariant.1).0, (room_at c.args.b.now _ _ _ c.loop-q-test.true c.loop-q.invariant.1).1, c.loop-q.invariant.2, c.requires.1)
 
 pub overflow_mul-v : goal.overflow_mul-v
-overflow_mul-v c = omega (arith, c.shared_slice_known-in-loop-q-2-1.given (c.loop-q.q + c.args.d + 1))
+overflow_mul-v c = omega (arith, c.type_inv.b (c.loop-q.q + c.args.d + 1))
 
 pub overflow_add-v-in-loop-q-3 : goal.overflow_add-v-in-loop-q-3
-overflow_add-v-in-loop-q-3 c = omega (arith, c.shared_slice_known-in-loop-q-2-1.given (c.loop-q.q + c.args.d + 1), c.shared_slice_known-in-loop-q-1.given (c.loop-q.q + c.args.d))
+overflow_add-v-in-loop-q-3 c = omega (arith, c.type_inv.b (c.loop-q.q + c.args.d + 1), c.type_inv.b (c.loop-q.q + c.args.d))
 
 pub returns-then-v-m : goal.returns-then-v-m
 returns-then-v-m c = counting-wrong c.args.b.now _ _ _ _ c.loop-q.q c.loop-q.invariant.0 _ c.loop-q-test.true refl (omega (arith, c.if-v-m.true))

@@ -7,16 +7,16 @@ use borrow.Author.Rules.{rules}
 use Rattle.tree.proofs.content.Goals as goal
 
 pub returns-then-leaf_ok : goal.returns-then-leaf_ok
-returns-then-leaf_ok c = let w = c in leaf-right w.args.b.now w.args.p w.args.e w.args.s w.requires.0 w.requires.3 (omega (arith, c.if-s-ge200.true)) (sym c.if-leaf_ok.true ∙ c.leaf_ok.ensures)
+returns-then-leaf_ok c = leaf-right c.args.b.now c.args.p c.args.e c.args.s c.requires.0 c.requires.3 (omega (arith, c.if-s-ge200.true)) (sym c.if-leaf_ok.true ∙ c.leaf_ok.ensures)
 
 pub returns-then-s-ge200 : goal.returns-then-s-ge200
-returns-then-s-ge200 c = let w = c in leaf-wrong w.args.b.now w.args.p w.args.e w.args.s w.requires.0 w.requires.3 (omega (arith, c.if-s-ge200.true)) (sym c.if-leaf_ok.false ∙ c.leaf_ok.ensures)
+returns-then-s-ge200 c = leaf-wrong c.args.b.now c.args.p c.args.e c.args.s c.requires.0 c.requires.3 (omega (arith, c.if-s-ge200.true)) (sym c.if-leaf_ok.false ∙ c.leaf_ok.ensures)
 
 pub row-requires : goal.row-requires
-row-requires c = let w = c in (search rules, search rules, search rules, w.requires.4 (omega (arith, c.if-s-ge200.false)), search rules)
+row-requires c = (search rules, search rules, search rules, c.requires.4 (omega (arith, c.if-s-ge200.false)), search rules)
 
 pub returns-then-row : goal.returns-then-row
-returns-then-row c = let w = c in row-right w.args.b.now w.args.p w.args.e w.args.s w.requires.0 w.requires.3 (omega (arith, c.if-s-ge200.false)) (said _ _ c.row.ensures c.if-row.true)
+returns-then-row c = row-right c.args.b.now c.args.p c.args.e c.args.s c.requires.0 c.requires.3 (omega (arith, c.if-s-ge200.false)) (said _ _ c.row.ensures c.if-row.true)
 
 pub returns : goal.returns
-returns c = let w = c in row-wrong w.args.b.now w.args.p w.args.e w.args.s w.requires.0 w.requires.3 (omega (arith, c.if-s-ge200.false)) (denied _ _ c.row.ensures c.if-row.false)
+returns c = row-wrong c.args.b.now c.args.p c.args.e c.args.s c.requires.0 c.requires.3 (omega (arith, c.if-s-ge200.false)) (denied _ _ c.row.ensures c.if-row.false)

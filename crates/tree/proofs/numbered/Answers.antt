@@ -9,10 +9,10 @@ pub loop-p-init : goal.loop-p-init
 loop-p-init c = (λ t h. left-start _ t _ (c.modules-p.ensures t h), search rules)
 
 pub uses_ok-requires : goal.uses_ok-requires
-uses_ok-requires c = let a = c in let n = next_of a.args.b.now a.requires.1.0 c.loop-p.p c.loop-p.m (c.loop-p.invariant.0 a.requires.1.0 a.requires.1.1) c.loop-p-test.true in (search rules, (n.uses, n.has))
+uses_ok-requires c = let n = next_of c.args.b.now c.requires.1.0 c.loop-p.p c.loop-p.m (c.loop-p.invariant.0 c.requires.1.0 c.requires.1.1) c.loop-p-test.true in (search rules, (n.uses, n.has))
 
 pub end_of-p-requires : goal.end_of-p-requires
-end_of-p-requires c = let a = c in let n = next_of a.args.b.now a.requires.1.0 c.loop-p.p c.loop-p.m (c.loop-p.invariant.0 a.requires.1.0 a.requires.1.1) c.loop-p-test.true in (omega (arith, n.has.fits), search rules)
+end_of-p-requires c = let n = next_of c.args.b.now c.requires.1.0 c.loop-p.p c.loop-p.m (c.loop-p.invariant.0 c.requires.1.0 c.requires.1.1) c.loop-p-test.true in (omega (arith, n.has.fits), search rules)
 
 pub loop-p-preserved : goal.loop-p-preserved
 loop-p-preserved c = (λ t h. left-next _ t _ _ (c.loop-p.invariant.0 t h) c.loop-p-test.true _ c.end_of-p.ensures (λ u x. sym c.if-uses_ok.true ∙ c.uses_ok.ensures u x), omega (arith, c.end_of-p.ensures, c.loop-p.invariant.1))

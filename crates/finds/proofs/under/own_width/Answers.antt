@@ -26,7 +26,7 @@ pub end_of-requires : goal.end_of-requires
 end_of-requires c = let a = c.args in term_fits a.b.now _ a.q c.requires.2.2
 
 pub entries_width-requires : goal.entries_width-requires
-entries_width-requires c = let a = c.args in let t = term-tag a.b.now _ a.q c.requires.2.2 in let k = c.in_default-1.rest in let e : get_or a.b.now a.q 0 ≡ 0xB0 = elim c.in_default.branch [ in_default-via-then-tag-lt160 w ↦ absurd (omega (arith, t.0)) | in_default-via-else-tag-lt160+else-tag-lt162+else-tag-lt165 w ↦ last-tag (get_or a.b.now a.q 0) t.1 (omega arith) k.0.0.0.0.0.0.0.0.0.1 k.0.0.0.0.0.0.0.0.1 k.0.0.0.0.0.0.0.1 k.0.0.0.0.0.0.1 c.requires.3 k.0.0.0.0.0.1 k.0.0.0.0.1 k.0.0.0.1 k.0.0.1 k.0.1 k.1 ] in (omega (arith, c.end_of.ensures, term_fits a.b.now _ a.q c.requires.2.2), obj-entries a.b.now a.q e _ c.requires.2.2 c.end_of.result c.end_of.ensures)
+entries_width-requires c = let a = c.args in let t = term-tag a.b.now _ a.q c.requires.2.2 in let e : get_or a.b.now a.q 0 ≡ 0xB0 = elim c.in_default.branch [ in_default-via-then-tag-lt160 w ↦ absurd (omega (arith, t.0)) | in_default-via-else-tag-lt160+else-tag-lt162+else-tag-lt165 w ↦ last-tag (get_or a.b.now a.q 0) t.1 (omega arith) (λ e. omega arith) (λ e. omega arith) (λ e. omega arith) (λ e. omega arith) c.requires.3 (λ e. omega arith) (λ e. omega arith) (λ e. omega arith) (λ e. omega arith) (λ e. omega arith) (λ e. omega arith) ] in (omega (arith, c.end_of.ensures, term_fits a.b.now _ a.q c.requires.2.2), obj-entries a.b.now a.q e _ c.requires.2.2 c.end_of.result c.end_of.ensures)
 
 pub returns-in-165 : goal.returns-in-165
 returns-in-165 c = let a = c.args in (under-break a.b.now a.rows.now a.p a.q c.named_width.result c.in-165.is c.named_width.ensures.0, omega (arith, c.named_width.ensures.1))
@@ -59,10 +59,10 @@ pub returns-in-175 : goal.returns-in-175
 returns-in-175 c = let a = c.args in (under-own a.b.now a.rows.now a.p a.q _ c.quoted_width.ensures.0, omega (arith, c.quoted_width.ensures.1))
 
 pub returns-in-160 : goal.returns-in-160
-returns-in-160 c = let a = c.args in (under-own a.b.now a.rows.now a.p a.q _ (two-wide a.b.now a.q c.in-160.if-tag-lt160-own.false c.in-160.if-tag-lt162-own.true), omega arith)
+returns-in-160 c = let a = c.args in (under-own a.b.now a.rows.now a.p a.q _ (two-wide a.b.now a.q (omega arith) (omega arith)), omega arith)
 
 pub returns-in-162 : goal.returns-in-162
-returns-in-162 c = let a = c.args in (under-own a.b.now a.rows.now a.p a.q _ (three-wide a.b.now a.q c.in-162.if-tag-lt162-own.false c.in-162.if-tag-lt165-own.true), omega arith)
+returns-in-162 c = let a = c.args in (under-own a.b.now a.rows.now a.p a.q _ (three-wide a.b.now a.q (omega arith) (omega arith)), omega arith)
 
 pub returns-in_default : goal.returns-in_default
-returns-in_default c = let a = c.args in let t = term-tag a.b.now _ a.q c.requires.2.2 in let k = c.in_default-1.rest in let e : get_or a.b.now a.q 0 ≡ 0xB0 = elim c.in_default.branch [ in_default-via-then-tag-lt160 w ↦ absurd (omega (arith, t.0)) | in_default-via-else-tag-lt160+else-tag-lt162+else-tag-lt165 w ↦ last-tag (get_or a.b.now a.q 0) t.1 (omega arith) k.0.0.0.0.0.0.0.0.0.1 k.0.0.0.0.0.0.0.0.1 k.0.0.0.0.0.0.0.1 k.0.0.0.0.0.0.1 c.requires.3 k.0.0.0.0.0.1 k.0.0.0.0.1 k.0.0.0.1 k.0.0.1 k.0.1 k.1 ] in (under-own a.b.now a.rows.now a.p a.q _ (obj-wide a.b.now a.q c.entries_width.result c.end_of.result c.end_of.ensures c.entries_width.ensures.0 e), omega (arith, c.entries_width.ensures.1))
+returns-in_default c = let a = c.args in let t = term-tag a.b.now _ a.q c.requires.2.2 in let e : get_or a.b.now a.q 0 ≡ 0xB0 = elim c.in_default.branch [ in_default-via-then-tag-lt160 w ↦ absurd (omega (arith, t.0)) | in_default-via-else-tag-lt160+else-tag-lt162+else-tag-lt165 w ↦ last-tag (get_or a.b.now a.q 0) t.1 (omega arith) (λ e. omega arith) (λ e. omega arith) (λ e. omega arith) (λ e. omega arith) c.requires.3 (λ e. omega arith) (λ e. omega arith) (λ e. omega arith) (λ e. omega arith) (λ e. omega arith) (λ e. omega arith) ] in (under-own a.b.now a.rows.now a.p a.q _ (obj-wide a.b.now a.q c.entries_width.result c.end_of.result c.end_of.ensures c.entries_width.ensures.0 e), omega (arith, c.entries_width.ensures.1))

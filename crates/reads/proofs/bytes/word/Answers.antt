@@ -13,16 +13,16 @@ pub returns-then-l-eq0 : goal.returns-then-l-eq0
 returns-then-l-eq0 c = word_none _ c.if-l-ge4.false c.if-l-eq0.true
 
 pub overflow_mul-result-2 : goal.overflow_mul-result-2
-overflow_mul-result-2 c = let x = c.args.x.now in omega (arith, c.shared_slice_known-3-1.given (0), c.shared_slice_known-3-1.given (length x / 2))
+overflow_mul-result-2 c = let x = c.args.x.now in omega (arith, c.type_inv.x (0), c.type_inv.x (length x / 2))
 
 pub overflow_add-result-2 : goal.overflow_add-result-2
-overflow_add-result-2 c = let x = c.args.x.now in omega (arith, c.shared_slice_known-3-1.given (0), c.shared_slice_known-3-1.given (length x / 2))
+overflow_add-result-2 c = let x = c.args.x.now in omega (arith, c.type_inv.x (0), c.type_inv.x (length x / 2))
 
 pub overflow_mul-result-3 : goal.overflow_mul-result-3
-overflow_mul-result-3 c = let x = c.args.x.now in omega (arith, c.shared_slice_known-4-1.given (0), c.shared_slice_known-4-1.given (length x / 2), c.shared_slice_known-4-1.given (length x - 1))
+overflow_mul-result-3 c = let x = c.args.x.now in omega (arith, c.type_inv.x (0), c.type_inv.x (length x / 2), c.type_inv.x (length x - 1))
 
 pub overflow_add-result-3 : goal.overflow_add-result-3
-overflow_add-result-3 c = let x = c.args.x.now in omega (arith, c.shared_slice_known-4-1.given (0), c.shared_slice_known-4-1.given (length x / 2), c.shared_slice_known-4-1.given (length x - 1))
+overflow_add-result-3 c = let x = c.args.x.now in omega (arith, c.type_inv.x (0), c.type_inv.x (length x / 2), c.type_inv.x (length x - 1))
 
 pub returns : goal.returns
 returns c = word-short _ c.if-l-ge4.false c.if-l-eq0.false

@@ -1,4 +1,5 @@
 -- `fold_kind` meets its contract. Assumes nothing.
+use native.Mathlib.Omega.{arith}
 use Rattle.reads.specs.Widths.{fold_kind}
 use mathlib.Core.Path.{sym, ap, ◌∙◌}
 use Prim.Native.Nat.{ℕ}
@@ -13,4 +14,4 @@ pub returns-in-3 : goal.returns-in-3
 returns-in-3 c = let f = text_of c.args.b.now c.args.p in c.kind_of_three.ensures ∙ ap (λ (n : ℕ). fold_kind f n) (sym c.in-3.is)
 
 pub returns-in_default : goal.returns-in_default
-returns-in_default c = let f = text_of c.args.b.now c.args.p in let r = c.in_default.in_default-own.rest in kind-other f _ r.0.1 r.1
+returns-in_default c = let f = text_of c.args.b.now c.args.p in kind-other f _ (λ e. omega arith) (λ e. omega arith)

@@ -23,4 +23,4 @@ pub returns-in-2 : goal.returns-in-2
 returns-in-2 c = let a = c.args in let b = a.b.now in let s = c.requires in (λ x h. fold-twelve _ _ _ c.in-2.is (c.pattern_width.ensures.0 x h), omega (arith, c.pattern_width.ensures.1))
 
 pub returns-in_default : goal.returns-in_default
-returns-in_default c = let a = c.args in let b = a.b.now in let s = c.requires in let r = c.in_default.in_default-own.rest in (λ x h. fold-ten _ _ _ r.0.1 r.1 (c.pattern_width-in_default.ensures.0 x h), omega (arith, c.pattern_width-in_default.ensures.1))
+returns-in_default c = let a = c.args in let b = a.b.now in let s = c.requires in (λ x h. fold-ten _ _ _ (λ e. omega arith) (λ e. omega arith) (c.pattern_width-in_default.ensures.0 x h), omega (arith, c.pattern_width-in_default.ensures.1))

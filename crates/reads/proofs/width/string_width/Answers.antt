@@ -29,4 +29,4 @@ pub returns-in-188 : goal.returns-in-188
 returns-in-188 c = let a = c.args in let b = a.b.now in let s = c.requires in (char-width b _ _ c.in-188.is (c.utf8_len.ensures ∙ ap (λ (n : ℕ). length (utf8 n)) c.char_at.ensures), omega (arith, c.utf8_len.ensures, utf8-length c.char_at.result, char-len b _ c.in-188.is s.0 s.1))
 
 pub returns-in_default : goal.returns-in_default
-returns-in_default c = let a = c.args in let b = a.b.now in let s = c.requires in let r = c.in_default.in_default-own.rest in (term-width b _ r.0.1 r.1, omega arith)
+returns-in_default c = let a = c.args in let b = a.b.now in let s = c.requires in (term-width b _ (λ e. omega arith) (λ e. omega arith), omega arith)
