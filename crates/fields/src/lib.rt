@@ -8,6 +8,7 @@ ghost use Rattle.std.specs.Prelude.{◌≡◌, ◌+◌, ◌≤◌, ◌<◌, ◌^
 ghost use Rattle.fields.specs.Number.{number};
 ghost use Rattle.fields.specs.Field.{field};
 ghost use Rattle.fields.specs.Room.{overlay};
+ghost use Rattle.fields.specs.Refusals.{number_of, place_of, answer_of};
 
 // What every call gives: document 01's result number, the length written and a place.
 #[derive(Clone, Copy)]
@@ -15,6 +16,76 @@ pub struct Answer {
     pub number: u8,
     pub length: usize,
     pub place: usize,
+}
+
+// What a call wrote: the listing that is due, or a listing of errors and nothing else, each with its length.
+#[derive(Clone, Copy, Debug, PartialEq, Eq)]
+pub enum Listing {
+    Due(usize),
+    Errors(usize),
+}
+
+// Why a call lists nothing. Where the input is not well formed or nests too deep, there is a place for it in a source.
+#[derive(Clone, Copy, Debug, PartialEq, Eq)]
+pub enum Refusal {
+    TooLong,
+    NotWellFormed(usize),
+    TooDeep(usize),
+    DefinitionsTooDeep,
+    TooManyTerms,
+    NoRoom,
+    TooManyOperators,
+}
+
+impl Refusal {
+    // Document 01's result number.
+    pub fn number(self) -> u8
+        ensures { result ≡ number_of self }
+    {
+        match self {
+            Refusal::TooLong => 2,
+            Refusal::NotWellFormed(_) => 3,
+            Refusal::TooDeep(_) => 4,
+            Refusal::DefinitionsTooDeep => 5,
+            Refusal::TooManyTerms => 6,
+            Refusal::NoRoom => 7,
+            Refusal::TooManyOperators => 8,
+        }
+    }
+
+    // The place in the source, 0 where there is none.
+    pub fn place(self) -> usize
+        ensures { result ≡ place_of self }
+    {
+        match self {
+            Refusal::NotWellFormed(at) | Refusal::TooDeep(at) => at,
+            _ => 0,
+        }
+    }
+}
+
+impl From<Result<Listing, Refusal>> for Answer {
+    ghost from_gives = { λ listed a. a ≡ answer_of listed };
+
+    fn from(listed: Result<Listing, Refusal>) -> Answer {
+        match listed {
+            Ok(Listing::Due(length)) => Answer {
+                number: 0,
+                length,
+                place: 0,
+            },
+            Ok(Listing::Errors(length)) => Answer {
+                number: 1,
+                length,
+                place: 0,
+            },
+            Err(refusal) => Answer {
+                number: refusal.number(),
+                length: 0,
+                place: refusal.place(),
+            },
+        }
+    }
 }
 
 // Copies bytes to out from at on, all of which there is room for.
