@@ -40,7 +40,7 @@ fn call(entry: u8, input: &[u8], room: &mut [u8]) -> Called
     ensures { Calls entry input.now room.old room.new result }
 {
     match entry {
-        1 => Called::Gave(climber::climb(input, room)),
+        1 => Called::Gave(Answer::from(climber::climb(input, room))),
         2 => Called::Gave(lexer::lex(input, room)),
         _ => Called::Unknown,
     }

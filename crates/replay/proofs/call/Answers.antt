@@ -5,7 +5,7 @@ use Rattle.replay.proofs.call.Goals as goal
 
 pub returns-in-1 : goal.returns-in-1
 unfolding outcome
-returns-in-1 c = named _ 1 _ _ _ _ c.in-1.is c.climb.ensures
+returns-in-1 c = named _ 1 _ _ _ _ c.in-1.is (rw c.from.ensures c.climb.ensures)
 
 pub returns-in-2 : goal.returns-in-2
 unfolding outcome
