@@ -2,4 +2,5 @@ pub mod Number
 pub mod Field
 pub mod Room
 pub mod Outcome
+pub mod Refusals
 pub mod Promises

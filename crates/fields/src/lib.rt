@@ -8,25 +8,91 @@ ghost use Rattle.std.specs.Prelude.{◌≡◌, ◌+◌, ◌≤◌, ◌<◌, ◌^
 ghost use Rattle.fields.specs.Number.{number};
 ghost use Rattle.fields.specs.Field.{field};
 ghost use Rattle.fields.specs.Room.{overlay};
+ghost use Rattle.fields.specs.Refusals.{number_of, place_of, answer_of};
 
 // What every call gives: document 01's result number, the length written and a place.
-#[derive(Clone, Copy)]
+#[derive(Clone, Copy, Debug, PartialEq, Eq)]
 pub struct Answer {
     pub number: u8,
     pub length: usize,
     pub place: usize,
 }
 
-// Copies bytes to out from at on, all of which there is room for.
-fn copy(out: &mut [u8], at: usize, bytes: &[u8])
-    requires { at + length bytes.now ≤ length out.old }
-    ensures { out.new ≡ overlay out.old at bytes.now }
-{
-    let mut i = 0;
-    while i < bytes.len() {
-        out[at + i] = bytes[i];
-        i += 1;
+// What a call wrote: the listing that is due, or a listing of errors and nothing else, each with its length.
+#[derive(Clone, Copy, Debug, PartialEq, Eq)]
+pub enum Listing {
+    Due(usize),
+    Errors(usize),
+}
+
+// Why a call lists nothing. Where the input is not well formed or nests too deep, there is a place for it in a source.
+#[derive(Clone, Copy, Debug, PartialEq, Eq)]
+pub enum Refusal {
+    TooLong,
+    NotWellFormed(usize),
+    TooDeep(usize),
+    DefinitionsTooDeep,
+    TooManyTerms,
+    NoRoom,
+    TooManyOperators,
+}
+
+impl Refusal {
+    // Document 01's result number.
+    pub fn number(self) -> u8
+        ensures { result ≡ number_of self }
+    {
+        match self {
+            Refusal::TooLong => 2,
+            Refusal::NotWellFormed(_) => 3,
+            Refusal::TooDeep(_) => 4,
+            Refusal::DefinitionsTooDeep => 5,
+            Refusal::TooManyTerms => 6,
+            Refusal::NoRoom => 7,
+            Refusal::TooManyOperators => 8,
+        }
     }
+
+    // The place in the source, 0 where there is none.
+    pub fn place(self) -> usize
+        ensures { result ≡ place_of self }
+    {
+        match self {
+            Refusal::NotWellFormed(at) | Refusal::TooDeep(at) => at,
+            _ => 0,
+        }
+    }
+}
+
+impl From<Result<Listing, Refusal>> for Answer {
+    ghost from_gives = { λ listed a. a ≡ answer_of listed };
+
+    fn from(listed: Result<Listing, Refusal>) -> Answer {
+        match listed {
+            Ok(Listing::Due(length)) => Answer {
+                number: 0,
+                length,
+                place: 0,
+            },
+            Ok(Listing::Errors(length)) => Answer {
+                number: 1,
+                length,
+                place: 0,
+            },
+            Err(refusal) => Answer {
+                number: refusal.number(),
+                length: 0,
+                place: refusal.place(),
+            },
+        }
+    }
+}
+
+// A number in two bytes; what is above them is left out.
+pub fn number(n: usize) -> [u8; 2]
+    ensures { result ≡ number 2 n }
+{
+    ((n % 65536) as u16).to_le_bytes()
 }
 
 // Puts bytes into out from at on, as far as there is room, and gives the offset behind them.
@@ -36,13 +102,10 @@ pub fn put(out: &mut [u8], at: usize, bytes: &[u8]) -> usize
 {
     let end = at + bytes.len();
     if end <= out.len() {
-        copy(out, at, bytes);
-        return end;
-    }
-    if at < out.len() {
+        out[at..end].copy_from_slice(bytes);
+    } else if at < out.len() {
         let fits = out.len() - at;
-        copy(out, at, &bytes[..fits]);
-        return end;
+        out[at..].copy_from_slice(&bytes[..fits]);
     }
     end
 }
@@ -51,40 +114,23 @@ pub fn put(out: &mut [u8], at: usize, bytes: &[u8]) -> usize
 fn pair(tag: u8, a: usize, b: usize) -> [u8; 7]
     ensures { result ≡ field tag (number 2 a ++ number 2 b) }
 {
-    [
-        tag,
-        4,
-        0,
-        (a % 256) as u8,
-        (a / 256 % 256) as u8,
-        (b % 256) as u8,
-        (b / 256 % 256) as u8,
-    ]
+    let [a_low, a_high] = number(a);
+    let [b_low, b_high] = number(b);
+    [tag, 4, 0, a_low, a_high, b_low, b_high]
 }
 
-// Stores a field of two numbers, for which there is room: a record of 7 bytes, each byte at once.
+// Stores a field of two numbers, for which there is room.
 pub fn store_pair(out: &mut [u8], at: usize, tag: u8, a: usize, b: usize)
     requires { at + 7 ≤ length out.old }
     ensures { out.new ≡ overlay out.old at (field tag (number 2 a ++ number 2 b)) }
 {
-    out[at] = tag;
-    out[at + 1] = 4;
-    out[at + 2] = 0;
-    out[at + 3] = (a % 256) as u8;
-    out[at + 4] = (a / 256 % 256) as u8;
-    out[at + 5] = (b % 256) as u8;
-    out[at + 6] = (b / 256 % 256) as u8;
+    out[at..at + 7].copy_from_slice(&pair(tag, a, b));
 }
 
-// Puts a field of two numbers, as far as there is room, which nearly always there is.
+// Puts a field of two numbers, as far as there is room.
 pub fn put_pair(out: &mut [u8], at: usize, tag: u8, a: usize, b: usize) -> usize
     requires { at + 7 < 2 ^ 64 }
     ensures { (result ≡ at + 7) × (out.new ≡ overlay out.old at (field tag (number 2 a ++ number 2 b))) }
 {
-    if at + 7 <= out.len() {
-        store_pair(out, at, tag, a, b);
-        return at + 7;
-    }
-    let bytes = pair(tag, a, b);
-    put(out, at, &bytes)
+    put(out, at, &pair(tag, a, b))
 }
