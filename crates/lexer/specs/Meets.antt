@@ -19,6 +19,10 @@ pub record Byte (s : List ℕ) (at r : ℕ) : Type 0 where
   pub is : r ≡ byte s at
   pub within : at + 1 ≤ length s + (1 - r)
 
+-- a closure that tests a byte as p does
+abbrev pub Tests : (ℕ → Bool → Type 0) → (ℕ → Bool) → Type 0
+Tests post p = (b : ℕ) (r : Bool) → b < 256 → post b r → r ≡ p b
+
 -- an ASCII byte that starts neither white space nor a comment
 unfoldable pub bare : ℕ → Bool
 bare b = cond (ltb b 128) (cond (white_space b) false (not (eqb b 0x23))) false

@@ -7,21 +7,14 @@ ghost use Rattle.lexer.specs.Meets.{Reaches, Within, Scans};
 
 use crate::class::digit;
 use crate::put::put_error;
-use crate::scan::{Scanned, byte_at, optional};
+use crate::scan::{Scanned, byte_at, optional, past};
 
 // [0-9]*
 fn digits0(s: &[u8], at: usize) -> usize
     requires { at ≤ length s.now }
     ensures { Reaches (past digit s.now at) s.now at result }
 {
-    let mut i = at;
-    while i < s.len() {
-        if !digit(s[i]) {
-            return i;
-        }
-        i += 1;
-    }
-    i
+    past(s, at, digit)
 }
 
 // [0-9]+

@@ -1,7 +1,7 @@
 // Where a scan stands, and the byte at a place.
-ghost use Rattle.std.specs.Prelude.{[], ◌∷◌, ◌≤◌, ◌<◌, length};
-ghost use Rattle.lexer.specs.Scan.{optional};
-ghost use Rattle.lexer.specs.Meets.{Byte, Reaches};
+ghost use Rattle.std.specs.Prelude.{Bool, ℕ, [], ◌∷◌, ◌≤◌, ◌<◌, length};
+ghost use Rattle.lexer.specs.Scan.{optional, past};
+ghost use Rattle.lexer.specs.Meets.{Byte, Reaches, Tests};
 
 // The end of a scan that finds no tokens: its place, and the next offset in the room of errors.
 #[derive(Clone, Copy)]
@@ -43,4 +43,18 @@ pub fn optional(s: &[u8], at: usize, one: u8, other: u8) -> usize
         return at + 1;
     }
     at
+}
+
+// The place past the bytes of a class that start at a place: of whatever class the test is of.
+pub fn past<F: Fn(u8) -> bool>(s: &[u8], at: usize, test: F) -> usize
+    requires place { at ≤ length s.now }
+    requires callable { F.IsAlwaysCallable test }
+    ensures { (p : ℕ → Bool) → Tests (F.post test) p → Reaches (past p s.now at) s.now at result }
+{
+    for i in at..s.len() {
+        if !test(s[i]) {
+            return i;
+        }
+    }
+    s.len()
 }

@@ -5,21 +5,14 @@ ghost use Rattle.lexer.specs.Meets.{Reaches, Within, Scans};
 
 use crate::class::{letter, word_byte};
 use crate::put::put_error;
-use crate::scan::{Scanned, byte_at, optional};
+use crate::scan::{Scanned, byte_at, optional, past};
 
 // [a-zA-Z0-9_]*
 pub fn ident0(s: &[u8], at: usize) -> usize
     requires { at ≤ length s.now }
     ensures { Reaches (ident0 s.now at) s.now at result }
 {
-    let mut i = at;
-    while i < s.len() {
-        if !word_byte(s[i]) {
-            return i;
-        }
-        i += 1;
-    }
-    i
+    past(s, at, word_byte)
 }
 
 // [a-zA-Z_][a-zA-Z0-9_]*
