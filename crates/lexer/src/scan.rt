@@ -1,22 +1,25 @@
-// Where a scan stands, and the byte at a place.
+// The byte at a place, what stands there, and how far it goes.
 ghost use Rattle.std.specs.Prelude.{Bool, ℕ, [], ◌∷◌, ◌≤◌, ◌<◌, length};
 ghost use Rattle.lexer.specs.Scan.{optional, past};
 ghost use Rattle.lexer.specs.Meets.{Byte, Reaches, Tests};
 
-// The end of a scan that finds no tokens: its place, and the next offset in the room of errors.
+use fields::Refusal;
+
+// An opener that nests too deep, and its place.
 #[derive(Clone, Copy)]
-pub struct Scanned {
-    pub at: usize,
-    pub errors: usize,
+pub struct TooDeep {
+    pub place: usize,
 }
 
-// Reading: the place, the next offset in the room of tokens and in that of errors. Where an opener nests too deep, deep is one more than its place; else 0.
-#[derive(Clone, Copy)]
-pub struct State {
-    pub at: usize,
-    pub tokens: usize,
-    pub errors: usize,
-    pub deep: usize,
+impl From<TooDeep> for Refusal {
+    ghost use Rattle.std.specs.Prelude.{◌≡◌};
+    ghost use Rattle.fields.specs.declared.Refusal.TheVariants as refusal;
+
+    ghost from_gives = { λ deep r. r ≡ refusal.TooDeep deep.place };
+
+    fn from(deep: TooDeep) -> Refusal {
+        Refusal::TooDeep(deep.place)
+    }
 }
 
 // The byte at a place; 0 at the end.
