@@ -1,5 +1,5 @@
 -- What the functions of the crate promise to one another: the value that a definition says, with the bounds that a caller needs.
-use Rattle.std.specs.Prelude.{◌≡◌, Bool, false, cond, not, List, [], ◌∷◌, ℕ, zero, suc, ◌+◌, ◌-◌, ◌*◌, ◌≤◌, ◌<◌, min, length, ltb, eqb, Result, Ok, Err, IfOk}
+use Rattle.std.specs.Prelude.{◌≡◌, Bool, false, cond, not, List, [], ◌∷◌, ℕ, suc, ◌+◌, ◌-◌, ◌*◌, ◌≤◌, ◌<◌, min, length, ltb, eqb, Result, Ok, Err, IfOk}
 use Rattle.text.specs.Space.{white_space}
 use Rattle.fields.specs.Field.{field}
 use Rattle.fields.specs.Room.{overlay}
@@ -23,16 +23,11 @@ pub record Byte (s : List ℕ) (at r : ℕ) : Type 0 where
 
 -- a closure that tests a byte as p does
 abbrev pub Tests : (ℕ → Bool → Type 0) → (ℕ → Bool) → Type 0
-Tests post p = (b : ℕ) (r : Bool) → b < 256 → post b r → r ≡ p b
+Tests post p = (b : ℕ) (r : Bool) → post b r → r ≡ p b
 
 -- an ASCII byte that starts neither white space nor a comment
 unfoldable pub bare : ℕ → Bool
 bare b = cond (ltb b 128) (cond (white_space b) false (not (eqb b 0x23))) false
-
--- how many of the n bytes from a place on are x
-unfoldable pub counts : ℕ → List ℕ → ℕ → ℕ → ℕ
-counts x s at zero = 0
-counts x s at (suc n) = counts x s at n + cond (eqb (byte s (at + n)) x) 1 0
 
 -- a place on the way along a run: what passes from there on ends where what passes from the start on ends
 pub record Going (p : ℕ → Bool) (s : List ℕ) (at i : ℕ) : Type 0 where

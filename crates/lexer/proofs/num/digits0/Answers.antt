@@ -3,4 +3,4 @@ use Rattle.lexer.specs.Word.{digit}
 use Rattle.lexer.proofs.num.digits0.Goals as goal
 
 pub returns : goal.returns
-returns c = c.past.ensures digit (λ b r k e. e)
+returns c = c.past.ensures digit (λ b r e. e)
