@@ -5,10 +5,12 @@ use mathlib.Core.List.{List, [], ◌∷◌, ◌++◌, append_assoc}
 use Prim.Native.Nat.{ℕ, zero, suc, ◌+◌, ◌-◌, ◌*◌, ◌%◌, ◌≤◌, ◌<◌}
 use native.Mathlib.Nat.{add-zero, zero-add}
 use native.Mathlib.Omega.{arith}
-use lib.ListN.{length, get_or, drop, length-append, drop_of_length-le}
-use lib.Seq.{drop-cons}
+use lib.ListN.{length, get_or, length-append}
 use lib.Dec.{leb}
-use borrow.Author.Tests.{le-leb, lt-leb, leb-true}
+use Rattle.std.specs.Prelude.{◌&&◌}
+use Rattle.std.specs.List.{list_all}
+use Rattle.std.specs.Simd.{first_chunks}
+use borrow.Author.Tests.{leb-true}
 use Rattle.fields.specs.Number.{number, length-number}
 use Rattle.fields.specs.Field.{field, length-field}
 use Rattle.fields.specs.Room.{overlay, overlay-append, overlay-before}
@@ -68,24 +70,19 @@ module _ (row : List ℕ) where
 
 -- ---- the check of a row
 
--- two bytes at a time
-two : (row : List ℕ) (i : ℕ) → i + 1 < length row → formed (drop i row) ≡ pick (leb (get_or row (i + 1) 0) 1) (formed (drop (i + 2) row)) false
+-- the side of an operator's two bytes is one
+abbrev pub is_side : List ℕ → Bool
+is_side operator = leb (get_or operator 1 0) 1
+
+-- a row in twos is well formed if each two is
+pub formed-twos : (row : List ℕ) (k : ℕ) → length row ≡ 2 * k → list_all is_side (first_chunks 2 k row) ≡ formed row
 unfolding formed
-two row i h =
-    let a : i + 1 ≡ suc i = omega arith in
-    let b : i + 2 ≡ suc (suc i) = omega arith in
-    let k : suc i < length row = omega arith in
-    rw (a, b, drop-cons row i 0 (omega arith), drop-cons row (suc i) 0 k)
-
-pub formed-next : (row : List ℕ) (i : ℕ) → i + 1 < length row → get_or row (i + 1) 0 ≤ 1 → formed (drop i row) ≡ formed (drop (i + 2) row)
-formed-next row i h k = two row i h ∙ simp (le-leb _ _ k)
-
-pub formed-bad : (row : List ℕ) (i : ℕ) → i + 1 < length row → 1 < get_or row (i + 1) 0 → formed (drop i row) ≡ false
-formed-bad row i h k = two row i h ∙ simp (lt-leb _ _ k)
-
-pub formed-all : (row : List ℕ) (i : ℕ) → length row ≤ i → formed (drop i row) ≡ true
-unfolding formed
-formed-all row i h = rw (drop_of_length-le row h)
+formed-twos [] zero h = refl
+formed-twos [] (suc k) h = absurd (omega arith)
+formed-twos (p ∷ []) k h = absurd (omega arith)
+formed-twos (p ∷ s ∷ row) zero h = absurd (omega arith)
+formed-twos (p ∷ s ∷ row) (suc k) h =
+    rw (formed-twos row k (omega arith)) (elim (leb s 1) as (λ t. (t && formed row) ≡ pick t (formed row) false) [ true ↦ refl | false ↦ refl ])
 
 right : (s : ℕ) (row : List ℕ) → pick (leb s 1) (formed row) false ≡ true → (s ≤ 1) × (formed row ≡ true)
 right s row h = go (leb s 1) refl h

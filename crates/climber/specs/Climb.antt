@@ -1,9 +1,11 @@
 -- How climbing finds the rows: what one call of `climb1` is handed, and what it gives. A row of operators is found by the least precedence that it may hold.
-use Rattle.std.specs.Prelude.{◌≡◌, Bool, false, List, ℕ, ◌+◌, ◌-◌, ◌*◌, ◌%◌, ◌≤◌, ◌<◌, length, ltb, leb}
+use Rattle.std.specs.Prelude.{◌≡◌, Bool, false, List, ◌++◌, ℕ, ◌+◌, ◌-◌, ◌*◌, ◌%◌, ◌≤◌, ◌<◌, length, ltb, leb}
 use Rattle.fields.specs.Room.{overlay}
-use Rattle.fields.specs.Outcome.{pick}
+use Rattle.fields.specs.Outcome.{listing, refusal, pick}
+use Rattle.fields.specs.Refusals.{number_of, place_of}
+use Rattle.fields.specs.declared.Refusal.{Refusal}
 use Rattle.climber.specs.Row.{count, precedence, side, longest, leftmost, rightmost}
-use Rattle.climber.specs.Climbing.{operators}
+use Rattle.climber.specs.Climbing.{operators, opening, climbing}
 
 -- the least precedence in the row of i: i's own, and one more if i is left-associative
 unfoldable pub least : List ℕ → ℕ → ℕ
@@ -30,3 +32,11 @@ Starts row from end = (i : ℕ) → from ≤ i → i < end → ((j : ℕ) → fr
 pub record Climbs (row : List ℕ) (from min r : ℕ) (d d' : List ℕ) : Type 0 where
   pub end : r ≡ climbed row min from
   pub puts : d' ≡ overlay d (4 + 7 * from) (operators row from (r - from))
+
+-- a row that is refused, whatever the room
+abbrev pub Refused : List ℕ → Refusal → Type 0
+Refused row e = climbing row ≡ refusal (number_of e) (place_of e)
+
+-- a row that is listed, where there is room
+abbrev pub Listed : List ℕ → Type 0
+Listed row = climbing row ≡ listing 0 (opening ++ operators row 0 (count row))

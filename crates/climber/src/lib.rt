@@ -4,13 +4,14 @@
 
 #![tactic(auto)]
 
-ghost use Rattle.std.specs.Prelude.{◌≡◌, ℕ, ◌+◌, ◌-◌, ◌*◌, ◌/◌, ◌≤◌, ◌<◌, ◌^◌, length};
+ghost use Rattle.std.specs.Prelude.{◌≡◌, ℕ, ◌+◌, ◌-◌, ◌*◌, ◌/◌, ◌≤◌, ◌<◌, ◌^◌, length, MatchResult};
 ghost use Rattle.fields.specs.Outcome.{Answers};
+ghost use Rattle.fields.specs.Refusals.{answer_of};
 ghost use Rattle.climber.specs.Row.{count};
 ghost use Rattle.climber.specs.Climbing.{formed, climbing};
-ghost use Rattle.climber.specs.Climb.{least, tight, climbed, Formed, Starts, Climbs};
+ghost use Rattle.climber.specs.Climb.{least, tight, climbed, Formed, Starts, Climbs, Refused, Listed};
 
-use fields::Answer;
+use fields::{Listing, Refusal};
 
 // The most bytes of any input, and the most operators of a row.
 const MOST_BYTES: usize = 32768;
@@ -18,107 +19,93 @@ const MOST_BYTES: usize = 32768;
 const MOST_OPERATORS: usize = 1024;
 
 // Do the bytes come in twos, each second one a side?
-fn formed(row: &[u8]) -> bool
-    ensures { result ≡ formed row.now }
+fn formed(bytes: &[u8]) -> bool
+    ensures { result ≡ formed bytes.now }
 {
-    if row.len() % 2 != 0 {
-        return false;
-    }
-    let mut i = 0;
-    while i < row.len() {
-        if 1 < row[i + 1] {
-            return false;
-        }
-        i += 2;
-    }
-    true
+    let (operators, odd) = bytes.as_chunks::<2>();
+    odd.is_empty() && operators.iter().all(|operator| operator[1] <= 1)
 }
 
-// Is there an operator i, and is it at least min tight?
-fn tight(row: &[u8], i: usize, min: usize) -> bool
-    requires { Formed row.now × (i ≤ count row.now) × (length row.now ≤ 2048) }
-    ensures { result ≡ tight row.now i min }
-{
-    if 2 * i < row.len() {
-        let p = row[2 * i] as usize;
-        if min <= p {
-            return true;
-        }
-        return false;
-    }
-    false
+// A row of operators that may be climbed: two bytes for each, its precedence and its side.
+#[derive(Clone, Copy)]
+struct Row<'a> {
+    bytes: &'a [u8],
+    ghost formed: { Formed bytes.now },
+    ghost few: { length bytes.now ≤ 2048 },
 }
 
-// The least precedence that the row of operator i may hold.
-fn least(row: &[u8], i: usize) -> usize
-    requires { Formed row.now × (i < count row.now) × (length row.now ≤ 2048) }
-    ensures { result ≡ least row.now i }
-{
-    let p = row[2 * i] as usize;
-    let s = row[2 * i + 1] as usize;
-    p + (1 - s)
+impl<'a> Row<'a> {
+    fn new(bytes: &'a [u8]) -> Result<Self, Refusal>
+        ensures { MatchResult result (λ row. (row.bytes.now ≡ bytes.now) × Listed row.bytes.now) (Refused bytes.now) }
+    {
+        if bytes.len() > MOST_BYTES {
+            return Err(Refusal::TooLong);
+        }
+        if !formed(bytes) {
+            return Err(Refusal::NotWellFormed(0));
+        }
+        if bytes.len() / 2 > MOST_OPERATORS {
+            return Err(Refusal::TooManyOperators);
+        }
+        Ok(Row { bytes })
+    }
+
+    fn count(self) -> usize
+        ensures { result ≡ count self.entry.bytes.now }
+    {
+        self.bytes.len() / 2
+    }
+
+    // Is there an operator i, and is it at least min tight?
+    fn tight(self, i: usize, min: usize) -> bool
+        requires { i ≤ count self.bytes.now }
+        ensures { result ≡ tight self.entry.bytes.now i min }
+    {
+        i < self.count() && min <= usize::from(self.bytes[2 * i])
+    }
+
+    // The least precedence that the row of operator i may hold.
+    fn least(self, i: usize) -> usize
+        requires { i < count self.bytes.now }
+        ensures { result ≡ least self.entry.bytes.now i }
+    {
+        let precedence = usize::from(self.bytes[2 * i]);
+        let side = usize::from(self.bytes[2 * i + 1]);
+        precedence + (1 - side)
+    }
 }
 
 // Puts the operators from `from` on that are each at least min tight. Operand `from` is the leftmost one of those of them
 // that stand in no other's row. Gives the first operator behind them.
-fn climb1(row: &[u8], from: usize, min: usize, out: &mut [u8]) -> usize
-    requires { Formed row.now × (from ≤ count row.now) × (length row.now ≤ 2048) × (4 + 7 * count row.now ≤ length out.old) × Starts row.now from (climbed row.now min from) }
-    ensures { Climbs row.now from min result out.old out.new }
+fn climb1(row: Row, from: usize, min: usize, out: &mut [u8]) -> usize
+    requires { (from ≤ count row.bytes.now) × (4 + 7 * count row.bytes.now ≤ length out.old) × Starts row.bytes.now from (climbed row.bytes.now min from) }
+    ensures { Climbs row.entry.bytes.now from min result out.old out.new }
 {
     let mut i = from;
-    while tight(row, i, min) {
-        let least = least(row, i);
-        if tight(row, i + 1, least) {
-            let next = climb1(row, i + 1, least, out);
-            fields::store_pair(out, 4 + 7 * i, 0x0B, from, next);
-            i = next;
+    // Kept: no `for` steps so: a turn passes the operator's own row, whose end the call for it gives.
+    while row.tight(i, min) {
+        let least = row.least(i);
+        let next = if row.tight(i + 1, least) {
+            climb1(row, i + 1, least, out)
         } else {
-            fields::store_pair(out, 4 + 7 * i, 0x0B, from, i + 1);
-            i = i + 1;
-        }
+            i + 1
+        };
+        fields::store_pair(out, 4 + 7 * i, 0x0B, from, next);
+        i = next;
     }
     i
 }
 
 // The operands of each operator of a row, listed in out.
-pub fn climb(row: &[u8], out: &mut [u8]) -> Answer
-    ensures { Answers (climbing row.now) out.old out.new result }
+pub fn climb(row: &[u8], out: &mut [u8]) -> Result<Listing, Refusal>
+    ensures { Answers (climbing row.now) out.old out.new (answer_of result) }
 {
-    if row.len() > MOST_BYTES {
-        return Answer {
-            number: 2,
-            length: 0,
-            place: 0,
-        };
+    let row = Row::new(row)?;
+    let length = 4 + 7 * row.count();
+    if length > out.len() {
+        return Err(Refusal::NoRoom);
     }
-    if formed(row) {
-        let count = row.len() / 2;
-        if count > MOST_OPERATORS {
-            return Answer {
-                number: 8,
-                length: 0,
-                place: 0,
-            };
-        }
-        let length = 4 + 7 * count;
-        if length > out.len() {
-            return Answer {
-                number: 7,
-                length: 0,
-                place: 0,
-            };
-        }
-        fields::put(out, 0, b"\x00\x01\x00\x01");
-        climb1(row, 0, 0, out);
-        return Answer {
-            number: 0,
-            length,
-            place: 0,
-        };
-    }
-    Answer {
-        number: 3,
-        length: 0,
-        place: 0,
-    }
+    fields::put(out, 0, b"\x00\x01\x00\x01");
+    climb1(row, 0, 0, out);
+    Ok(Listing::Due(length))
 }

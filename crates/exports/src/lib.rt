@@ -10,20 +10,20 @@ ghost use Rattle.exports.specs.Packed.{packed, Packs};
 
 use fields::Answer;
 
-fn pack(a: Answer) -> u64
-    requires { (a.length < 2 ^ 32) × (a.place < 2 ^ 24) }
-    ensures { result ≡ packed a }
+fn pack(answer: Answer) -> u64
+    requires { (answer.length < 2 ^ 32) × (answer.place < 2 ^ 24) }
+    ensures { result ≡ packed answer }
 {
-    let length = a.length as u64;
-    let place = a.place as u64;
-    a.number as u64 + length * 256 + place * 1099511627776
+    let length = answer.length as u64;
+    let place = answer.place as u64;
+    u64::from(answer.number) + length * 256 + place * 1099511627776
 }
 
 #[unsafe(no_mangle)]
 pub extern "C" fn filter_climb(row: &[u8], out: &mut [u8]) -> u64
     ensures { Packs (climbing row.now) out.old out.new result }
 {
-    pack(climber::climb(row, out))
+    pack(Answer::from(climber::climb(row, out)))
 }
 
 #[unsafe(no_mangle)]

@@ -11,7 +11,7 @@ ghost use Rattle.fields.specs.Room.{overlay};
 ghost use Rattle.fields.specs.Refusals.{number_of, place_of, answer_of};
 
 // What every call gives: document 01's result number, the length written and a place.
-#[derive(Clone, Copy)]
+#[derive(Clone, Copy, Debug, PartialEq, Eq)]
 pub struct Answer {
     pub number: u8,
     pub length: usize,

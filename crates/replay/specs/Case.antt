@@ -3,6 +3,7 @@
 use Rattle.std.specs.Prelude.{◌≡◌, List, ℕ, ◌+◌, ◌≤◌, length, take, drop, get_or}
 use Rattle.fields.specs.Number.{value}
 use Rattle.fields.specs.declared.Answer.{Answer}
+use Rattle.replay.specs.declared.Case.{Case}
 
 -- the number in the four bytes from `at` on
 unfoldable pub number_at : List ℕ → ℕ → ℕ
@@ -31,3 +32,24 @@ listing_of recorded = drop 13 recorded
 pub record Whole (case : List ℕ) : Type 0 where
   pub inputs : 18 + number_at case 1 ≤ length case
   pub lists : 13 + (answer_of (record_of case)).length ≡ length (record_of case)
+
+-- the parts of a case are those of its bytes
+pub record Parts (bytes : List ℕ) (case : Case) : Type 0 where
+  pub entry : case.entry ≡ entry_of bytes
+  pub input : case.input.now ≡ input_of bytes
+  pub lent : case.lent ≡ room_of (record_of bytes)
+  pub answer : case.answer ≡ answer_of (record_of bytes)
+  pub listing : case.listing.now ≡ listing_of (record_of bytes)
+
+-- the bytes begin with this number, and the rest is what is behind it
+abbrev pub NumberFirst : List ℕ → ℕ → List ℕ → Type 0
+NumberFirst bytes n rest = (4 ≤ length bytes) × (n ≡ number_at bytes 0) × (rest ≡ drop 4 bytes)
+
+-- the bytes begin with this case, which is whole, and the rest is what is behind it
+pub record CaseFirst (bytes : List ℕ) (case : Case) (rest : List ℕ) : Type 0 where
+  pub size : ℕ
+  pub some : 1 ≤ size
+  pub within : size ≤ length bytes
+  pub behind : rest ≡ drop size bytes
+  pub whole : Whole (take size bytes)
+  pub parts : Parts (take size bytes) case

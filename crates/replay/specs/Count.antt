@@ -1,45 +1,45 @@
--- The counts of cases and of mismatches, one for each entry's byte, and what they say of the sample.
-use Rattle.std.specs.Prelude.{◌≡◌, Bool, true, List, ℕ, ◌+◌, ◌≤◌, ◌<◌, ◌^◌, length, take, drop, get_or}
+-- The counts of cases and of mismatches, a tally for each entry, and what they say of the sample.
+use Rattle.std.specs.Prelude.{◌≡◌, Bool, true, List, ℕ, ◌+◌, ◌≤◌, ◌<◌, ◌^◌, length, take, drop, get_or, Option, IfSome}
+use denote.Bor.{Bor}
+use Rattle.replay.specs.declared.Tally.{Tally}
+use Rattle.replay.specs.declared.Tallies.{Tallies}
 use Rattle.replay.specs.Case.{Whole}
 use Rattle.replay.specs.Replay.{Holds}
 
 -- no count is above n
-unfoldable pub Few : List ℕ → ℕ → Type 0
-Few counts n = (i : ℕ) → get_or counts i 0 ≤ n
+abbrev pub Few : Tallies → ℕ → Type 0
+Few t n = (t.climb.cases ≤ n) × (t.climb.mismatches ≤ n) × (t.lex.cases ≤ n) × (t.lex.mismatches ≤ n)
 
--- there is a count for each byte, and none is above n
-pub record Tallies (counts : List ℕ) (n : ℕ) : Type 0 where
-  pub each : 256 ≤ length counts
-  pub few : Few counts n
+-- no mismatch is counted
+abbrev pub Faultless : Tallies → Type 0
+Faultless t = (t.climb.mismatches ≡ 0) × (t.lex.mismatches ≡ 0)
 
--- there is a count for each byte, and each can still grow by one
-pub record CanGrow (counts : List ℕ) : Type 0 where
-  pub each : 256 ≤ length counts
-  pub grows : (i : ℕ) → get_or counts i 0 + 1 < 2 ^ 64
+-- each count can still grow by one
+abbrev pub CanGrow : Tallies → Type 0
+CanGrow t = (n : ℕ) × (n + 1 < 2 ^ 64) × Few t n
 
--- one more is counted
-pub record Counted (k k' : List ℕ) : Type 0 where
-  pub few : (n : ℕ) → Few k n → Few k' (n + 1)
-  pub some : Few k' 0 → ⊥
+-- one more case is counted, and a mismatch where it does not hold
+pub record OneMore (t t' : Tally) (held : Bool) : Type 0 where
+  pub cases : t'.cases ≡ t.cases + 1
+  pub mismatches : t'.mismatches ≤ t.mismatches + 1
+  pub kept : t.mismatches ≤ t'.mismatches
+  pub faultless : t'.mismatches ≡ 0 → held ≡ true
 
--- a case is replayed: where no mismatch is counted, then or before, the case holds
-pub record Replayed (case : List ℕ) (r : Bool) (k k' m m' : List ℕ) : Type 0 where
-  pub cases : (n : ℕ) → Few k n → Few k' (n + 1)
-  pub mismatches : (n : ℕ) → Few m n → Few m' (n + 1)
-  pub kept : Few m' 0 → Few m 0
-  pub holds : r ≡ true → Few m' 0 → Holds case
+-- the same of the tallies: where no mismatch is counted, then or before, the case held
+pub record Counted (t t' : Tallies) (held : Bool) : Type 0 where
+  pub few : (n : ℕ) → Few t n → Few t' (n + 1)
+  pub kept : Faultless t' → Faultless t
+  pub faultless : Faultless t' → held ≡ true
 
 -- the case of n bytes at `at`
 abbrev pub case_at : List ℕ → ℕ → ℕ → List ℕ
 case_at sample at n = take n (drop at sample)
 
--- the same of the case at `at`, whose length is r, or of none, where r is 0. A case has at least one byte, so that no count is above the bytes replayed
-pub record Turned (sample : List ℕ) (at r : ℕ) (k' m m' : List ℕ) : Type 0 where
-  pub within : at + r ≤ length sample
-  pub cases : (r ≡ 0 → ⊥) → Few k' (at + r)
-  pub mismatches : (r ≡ 0 → ⊥) → Few m' (at + r)
-  pub kept : Few m' 0 → Few m 0
-  pub holds : (r ≡ 0 → ⊥) → Few m' 0 → Whole (case_at sample at r) × Holds (case_at sample at r)
+-- a case is replayed, of which r is what is behind it: it holds where no mismatch is counted, then or before. A case has at least one byte
+pub record Turned (rest : List ℕ) (r : Option (Bor (List ℕ))) (t t' : Tallies) : Type 0 where
+  pub few : (n : ℕ) → Few t n → Few t' (n + 1)
+  pub kept : Faultless t' → Faultless t
+  pub holds : IfSome r (λ behind. (n : ℕ) × (1 ≤ n) × (n ≤ length rest) × (behind.now ≡ drop n rest) × Whole (take n rest) × (Faultless t' → Holds (take n rest)))
 
 -- the sample before `at` is a row of whole cases, each of which holds
 pub data Held (sample : List ℕ) : ℕ → Type 0 where

@@ -6,43 +6,47 @@
 // Printed are the cases and the mismatches of each entry, and whether the sample is whole, or where it breaks: the place of a
 // case that is cut short, has an unknown entry or asks for a longer room than there is, or of an end with bytes behind it.
 // Proved is, beside that nothing is read past the sample's end: where no mismatch is counted, each recorded case is what the
-// definition of its entry gives (`replay`), and a case that is counted as a mismatch is not (`show`).
+// definition of its entry gives (`replay`), and a case that is counted as a mismatch is not (`holds`).
 
 #![tactic(auto)]
 
-ghost use Rattle.std.specs.Prelude.{◌≡◌, ◌+◌, ◌≤◌, ◌<◌, ◌^◌, length, take, IfOk};
-ghost use Rattle.replay.specs.Case.{number_at, record_of, room_of, Whole};
+ghost use Rattle.std.specs.Prelude.{◌≡◌, ◌+◌, ◌≤◌, ◌<◌, ◌^◌, length, IfOk, IfSome, MatchOption};
+ghost use Rattle.fields.specs.Outcome.{Answers};
+ghost use Rattle.replay.specs.Case.{NumberFirst, CaseFirst};
 ghost use Rattle.replay.specs.Lent.{pattern_at, Patterned, due_at, Left, Tells};
-ghost use Rattle.replay.specs.Replay.{Recorded, Calls, Shows};
-ghost use Rattle.replay.specs.Count.{Few, Tallies, CanGrow, Counted, Replayed, Turned, Held, Ended};
+ghost use Rattle.replay.specs.Replay.{byte_of, outcome, Unnamed, HoldsAs};
+ghost use Rattle.replay.specs.Count.{Few, CanGrow, Counted, OneMore, Turned, Faultless, Held, Ended};
 
 use fields::Answer;
-use std::io;
 use std::io::Read;
+use std::{fmt, io};
 
-// What a call by an entry's byte gives.
-#[derive(Clone, Copy)]
-enum Called {
-    Gave(Answer),
-    Unknown,
+// The entries that a sample may name. Each has a line in `named`, `call`, `Tallies`, `count` and `print_tallies`, and in
+// `byte_of` and `outcome` (specs/Replay.antt).
+#[derive(Clone, Copy, Debug, PartialEq, Eq)]
+enum Entry {
+    Climb,
+    Lex,
 }
 
-// What replaying a case shows: that it holds, that it does not, or that its entry is unknown.
-#[derive(Clone, Copy)]
-enum Shown {
-    Same,
-    Other,
-    Strange,
-}
+impl Entry {
+    fn named(byte: u8) -> Option<Entry>
+        ensures { MatchOption result (Unnamed byte) (λ entry. byte_of entry ≡ byte) }
+    {
+        match byte {
+            1 => Some(Entry::Climb),
+            2 => Some(Entry::Lex),
+            _ => None,
+        }
+    }
 
-// The entries by their bytes. An entry has a line here, one in `print_entries` and one in `outcome` (specs/Replay.antt).
-fn call(entry: u8, input: &[u8], room: &mut [u8]) -> Called
-    ensures { Calls entry input.now room.old room.new result }
-{
-    match entry {
-        1 => Called::Gave(climber::climb(input, room)),
-        2 => Called::Gave(lexer::lex(input, room)),
-        _ => Called::Unknown,
+    fn call(self, input: &[u8], room: &mut [u8]) -> Answer
+        ensures { Answers (outcome (byte_of self) input.now) room.old room.new result }
+    {
+        match self {
+            Entry::Climb => Answer::from(climber::climb(input, room)),
+            Entry::Lex => lexer::lex(input, room),
+        }
     }
 }
 
@@ -55,10 +59,8 @@ fn pattern(i: usize) -> u8
 fn fill(room: &mut [u8])
     ensures { Patterned room.new }
 {
-    let mut i = 0;
-    while i < room.len() {
-        room[i] = pattern(i);
-        i += 1;
+    for (i, byte) in room.iter_mut().enumerate() {
+        *byte = pattern(i);
     }
 }
 
@@ -66,168 +68,155 @@ fn fill(room: &mut [u8])
 fn due(listing: &[u8], i: usize) -> u8
     ensures { result ≡ due_at listing.now i }
 {
-    if i < listing.len() {
-        listing[i]
-    } else {
-        pattern(i)
-    }
+    listing.get(i).copied().unwrap_or(pattern(i))
 }
 
 // Does the room hold the listing, and past it the pattern still?
 fn left(room: &[u8], listing: &[u8]) -> bool
     ensures { Tells result (Left room.now listing.now) }
 {
-    if room.len() < listing.len() {
-        return false;
+    listing.len() <= room.len()
+        && room
+            .iter()
+            .enumerate()
+            .all(|(i, byte)| *byte == due(listing, i))
+}
+
+// A recorded case, in its parts.
+#[derive(Clone, Copy)]
+struct Case<'a> {
+    entry: u8,
+    input: &'a [u8],
+    // The length of the room that is lent.
+    lent: usize,
+    answer: Answer,
+    listing: &'a [u8],
+}
+
+impl Case<'_> {
+    // Does the entry give what is recorded, in a room as long as the case says?
+    fn holds(self, entry: Entry, room: &mut [u8]) -> bool
+        requires { (length room.old ≡ self.lent) × (length self.listing.now ≡ self.answer.length) }
+        ensures { Tells result (HoldsAs (outcome (byte_of entry) self.entry.input.now) self.entry.lent self.entry.answer self.entry.listing.now) }
+    {
+        fill(room);
+        let answer = entry.call(self.input, room);
+        answer == self.answer && left(room, self.listing)
     }
-    let mut i = 0;
-    while i < room.len() {
-        if room[i] != due(listing, i) {
-            return false;
+}
+
+// The number in the first four bytes, and the bytes behind them.
+fn split_number(bytes: &[u8]) -> Option<(usize, &[u8])>
+    ensures { IfSome result (λ p. NumberFirst bytes.now p.0 p.1.now) }
+{
+    let (number, rest) = bytes.split_first_chunk::<4>()?;
+    Some((u32::from_le_bytes(*number) as usize, rest))
+}
+
+// The whole case that the bytes begin with, and the bytes behind it.
+fn split_case(bytes: &[u8]) -> Option<(Case<'_>, &[u8])>
+    ensures { IfSome result (λ p. CaseFirst bytes.now p.0 p.1.now) }
+{
+    let (entry, rest) = bytes.split_first()?;
+    let (long, rest) = split_number(rest)?;
+    let (input, rest) = rest.split_at_checked(long)?;
+    let (lent, rest) = split_number(rest)?;
+    let (number, rest) = rest.split_first()?;
+    let (length, rest) = split_number(rest)?;
+    let (place, rest) = split_number(rest)?;
+    let (listing, rest) = rest.split_at_checked(length)?;
+    let answer = Answer {
+        number: *number,
+        length,
+        place,
+    };
+    let case = Case {
+        entry: *entry,
+        input,
+        lent,
+        answer,
+        listing,
+    };
+    Some((case, rest))
+}
+
+// How many cases of an entry were replayed, and how many of them do not hold.
+#[derive(Clone, Copy)]
+struct Tally {
+    cases: u64,
+    mismatches: u64,
+}
+
+impl Tally {
+    fn count(&mut self, held: bool)
+        requires { (self.old.cases + 1 < 2 ^ 64) × (self.old.mismatches + 1 < 2 ^ 64) }
+        ensures { OneMore self.old self.new held }
+    {
+        self.cases += 1;
+        self.mismatches += u64::from(!held);
+    }
+}
+
+impl fmt::Display for Tally {
+    fn fmt<W: fmt::Write>(&self, f: &mut fmt::Formatter<W>) -> fmt::Result {
+        write!(f, "{} cases, {} mismatches", self.cases, self.mismatches)
+    }
+}
+
+#[derive(Clone, Copy)]
+struct Tallies {
+    climb: Tally,
+    lex: Tally,
+}
+
+impl Tallies {
+    fn new() -> Tallies
+        ensures { Few result 0 }
+    {
+        let none = Tally {
+            cases: 0,
+            mismatches: 0,
+        };
+        Tallies {
+            climb: none,
+            lex: none,
         }
-        i += 1;
     }
-    true
-}
 
-fn wide(x: u8) -> usize
-    ensures { (result ≡ x) × (result < 256) }
-{
-    x as usize
-}
-
-// The number in the four bytes from `at` on.
-fn number(bytes: &[u8], at: usize) -> usize
-    requires { at + 4 ≤ length bytes.now }
-    ensures { (result ≡ number_at bytes.now at) × (result < 2 ^ 32) }
-{
-    let low = wide(bytes[at]) + 256 * wide(bytes[at + 1]);
-    let high = wide(bytes[at + 2]) + 256 * wide(bytes[at + 3]);
-    low + 65536 * high
-}
-
-// Are the answer and the room what is recorded?
-fn agrees(a: Answer, recorded: &[u8], room: &[u8]) -> bool
-    requires { 13 ≤ length recorded.now }
-    ensures { Tells result (Recorded a recorded.now room.now) }
-{
-    if a.number != recorded[4] {
-        return false;
-    }
-    if a.length != number(recorded, 5) {
-        return false;
-    }
-    if a.place != number(recorded, 9) {
-        return false;
-    }
-    left(room, &recorded[13..])
-}
-
-// The length of the case at the start of `rest`, or 0 where there is no whole one.
-fn case_length(rest: &[u8]) -> usize
-    ensures { (result ≤ length rest.now) × ((result ≡ 0 → ⊥) → Whole (take result rest.now)) }
-{
-    if rest.len() < 18 {
-        return 0;
-    }
-    let input = number(rest, 1);
-    if rest.len() - 18 < input {
-        return 0;
-    }
-    let listing = number(rest, input + 10);
-    if rest.len() - 18 - input < listing {
-        return 0;
-    }
-    18 + input + listing
-}
-
-// Replays a case in the room, which is as long as the case says.
-fn show(case: &[u8], room: &mut [u8]) -> Shown
-    requires { Whole case.now × (length room.old ≡ room_of (record_of case.now)) }
-    ensures { Shows case.now result }
-{
-    let end = 5 + number(case, 1);
-    fill(room);
-    match call(case[0], &case[5..end], room) {
-        Called::Unknown => Shown::Strange,
-        Called::Gave(a) => {
-            if agrees(a, &case[end..], room) {
-                Shown::Same
-            } else {
-                Shown::Other
-            }
+    fn count(&mut self, entry: Entry, held: bool)
+        requires { CanGrow self.old }
+        ensures { Counted self.old self.new held }
+    {
+        match entry {
+            Entry::Climb => self.climb.count(held),
+            Entry::Lex => self.lex.count(held),
         }
     }
 }
 
-// Counts one more of an entry.
-fn count(counts: &mut [u64], entry: u8)
-    requires { CanGrow counts.old }
-    ensures { Counted counts.old counts.new }
+// Replays and counts the case that `rest` begins with, and gives what is behind it. None where there is no whole case, its
+// entry is unknown, or its room longer than there is.
+fn turn<'a>(rest: &'a [u8], room: &mut [u8], tallies: &mut Tallies) -> Option<&'a [u8]>
+    requires { CanGrow tallies.old }
+    ensures { Turned rest.now result tallies.old tallies.new }
 {
-    let i = wide(entry);
-    counts[i] = counts[i] + 1;
-}
-
-// Replays and counts a case. False where its entry is unknown, or its room longer than there is.
-fn replay_case(case: &[u8], room: &mut [u8], cases: &mut [u64], mismatches: &mut [u64]) -> bool
-    requires { Whole case.now × CanGrow cases.old × CanGrow mismatches.old }
-    ensures { Replayed case.now result cases.old cases.new mismatches.old mismatches.new }
-{
-    let lent = number(case, 5 + number(case, 1));
-    if room.len() < lent {
-        return false;
-    }
-    match show(case, &mut room[..lent]) {
-        Shown::Same => {
-            count(cases, case[0]);
-            true
-        }
-        Shown::Other => {
-            count(cases, case[0]);
-            count(mismatches, case[0]);
-            true
-        }
-        Shown::Strange => false,
-    }
-}
-
-// Replays and counts the case at `at`, and gives its length: 0 where there is no case that can be replayed.
-fn turn(
-    sample: &[u8],
-    at: usize,
-    room: &mut [u8],
-    cases: &mut [u64],
-    mismatches: &mut [u64],
-) -> usize
-    requires { (at ≤ length sample.now) × Tallies cases.old at × Tallies mismatches.old at }
-    ensures { Turned sample.now at result cases.new mismatches.old mismatches.new }
-{
-    let long = case_length(&sample[at..]);
-    if long == 0 {
-        return 0;
-    }
-    let end = at + long;
-    if replay_case(&sample[at..end], room, cases, mismatches) {
-        long
-    } else {
-        0
-    }
+    let (case, behind) = split_case(rest)?;
+    let entry = Entry::named(case.entry)?;
+    let lent = room.get_mut(..case.lent)?;
+    tallies.count(entry, case.holds(entry, lent));
+    Some(behind)
 }
 
 // Replays case after case, and gives the place behind the last: every case before it holds if no mismatch is counted.
-fn replay(sample: &[u8], room: &mut [u8], cases: &mut [u64], mismatches: &mut [u64]) -> usize
-    requires { Tallies cases.old 0 × Tallies mismatches.old 0 }
-    ensures { (result ≤ length sample.now) × (Few mismatches.new 0 → Held sample.now result) }
+fn replay(sample: &[u8], room: &mut [u8]) -> (Tallies, usize)
+    ensures { (result.1 ≤ length sample.now) × (Faultless result.0 → Held sample.now result.1) }
 {
-    let mut at = 0;
-    loop {
-        let long = turn(sample, at, room, cases, mismatches);
-        if long == 0 {
-            return at;
-        }
-        at += long;
+    let mut tallies = Tallies::new();
+    let mut rest = sample;
+    while let Some(behind) = turn(rest, room, &mut tallies) {
+        rest = behind;
     }
+    (tallies, sample.len() - rest.len())
 }
 
 // Is `at` the place of the zero that ends the sample?
@@ -235,32 +224,13 @@ fn ends(sample: &[u8], at: usize) -> bool
     requires { at ≤ length sample.now }
     ensures { Tells result (Ended sample.now at) }
 {
-    if sample.len() - at != 1 {
-        return false;
-    }
-    if sample[at] != 0 {
-        return false;
-    }
-    true
-}
-
-fn print_entry(
-    rt: &impl Print,
-    name: &str,
-    entry: u8,
-    cases: &[u64; 256],
-    mismatches: &[u64; 256],
-) -> io::Result<()> {
-    let i = wide(entry);
-    let all = cases[i];
-    let missed = mismatches[i];
-    println!(rt; "{name}: {all} cases, {missed} mismatches")
+    matches!(&sample[at..], [0])
 }
 
 // A line for each entry.
-fn print_entries(rt: &impl Print, cases: &[u64; 256], mismatches: &[u64; 256]) -> io::Result<()> {
-    print_entry(rt, "climb", 1, cases, mismatches)?;
-    print_entry(rt, "lex", 2, cases, mismatches)
+fn print_tallies(rt: &impl Print, tallies: &Tallies) -> io::Result<()> {
+    println!(rt; "climb: {}", tallies.climb)?;
+    println!(rt; "lex: {}", tallies.lex)
 }
 
 fn print_end(rt: &impl Print, sample: &[u8], at: usize) -> io::Result<()>
@@ -273,10 +243,8 @@ fn print_end(rt: &impl Print, sample: &[u8], at: usize) -> io::Result<()>
 }
 
 fn report(rt: &impl Print, sample: &[u8], room: &mut [u8]) -> io::Result<()> {
-    let mut cases = [0u64; 256];
-    let mut mismatches = [0u64; 256];
-    let at = replay(sample, room, &mut cases, &mut mismatches);
-    print_entries(rt, &cases, &mismatches)?;
+    let (tallies, at) = replay(sample, room);
+    print_tallies(rt, &tallies)?;
     print_end(rt, sample, at)
 }
 
@@ -285,6 +253,7 @@ fn read_full(input: &mut impl Read, bytes: &mut [u8]) -> io::Result<usize>
     ensures { IfOk result (λ n. n ≤ length bytes.old) }
 {
     let mut n = 0;
+    // Kept: the step is what a read gives, and `read_exact` does not say how much an input that ends early had.
     while n < bytes.len() {
         let more = input.read(&mut bytes[n..])?;
         if more == 0 {

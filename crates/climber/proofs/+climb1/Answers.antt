@@ -1,123 +1,61 @@
-use mathlib.Core.Path.{refl, sym, ◌∙◌}
+-- `climber::climb1` meets its contract: what the call for the row of i gives, or that there is no such row, makes the turn. Assumes nothing.
+use mathlib.Core.Path.{sym, ◌∙◌}
 use native.Mathlib.Omega.{arith}
+use Prim.Native.Nat.{◌+◌}
+use Rattle.climber.specs.Climb.{Climbs}
 use Rattle.climber.proofs.Turns.{tight-yes, begin, asks, passed, within, again, done, alone}
-use borrow.Author.Rules.{rules}
 use Rattle.climber.proofs.+climb1.Goals as goal
+use Rattle.climber.proofs.+climb1.Goals.{then-tight, else-tight}
 
-pub loop-least-init : goal.loop-least-init
-loop-least-init t c =
-    begin _ _ _ _ (search rules)
+pub loop-row-init : goal.loop-row-init
+loop-row-init t c = begin _ _ _ _ c.requires.0
 
 pub tight-requires : goal.tight-requires
-tight-requires t c =
-    let p = c.requires in
-    (p.0, c.loop-least.invariant.high, p.2)
+tight-requires t c = c.loop-row.invariant.high
 
 pub least-least-requires : goal.least-least-requires
-least-least-requires t c =
-    let p = c.requires in
-    let l = c.loop-least.invariant in
-    let y = sym c.tight.ensures ∙ c.loop-least-test.true in
-    (p.0, (tight-yes _ _ _ y).0, p.2)
+least-least-requires t c = (tight-yes _ _ _ (sym c.tight.ensures ∙ c.loop-row-test.true)).0
 
-pub tight-requires-in-loop-least : goal.tight-requires-in-loop-least
-tight-requires-in-loop-least t c =
-    let p = c.requires in
-    let l = c.loop-least.invariant in
-    let y = sym c.tight.ensures ∙ c.loop-least-test.true in
-    (p.0, omega (arith, (tight-yes _ _ _ y).0), p.2)
+pub tight-requires-in-loop-row : goal.tight-requires-in-loop-row
+tight-requires-in-loop-row t c = omega (arith, (tight-yes _ _ _ (sym c.tight.ensures ∙ c.loop-row-test.true)).0)
 
 pub climb1-next-requires : goal.climb1-next-requires
 climb1-next-requires t c =
     let p = c.requires in
-    let l = c.loop-least.invariant in
-    let y = sym c.tight.ensures ∙ c.loop-least-test.true in
-    let h = tight-yes _ _ _ y in
-    (omega arith, (p.0, omega arith, p.2, omega arith, asks _ p.0 _ _ c.least-least.ensures))
-
-pub overflow_mul-i : goal.overflow_mul-i
-overflow_mul-i t c =
-    let p = c.requires in
-    let l = c.loop-least.invariant in
-    omega arith
-
-pub overflow_add-i-then-tight-2 : goal.overflow_add-i-then-tight-2
-overflow_add-i-then-tight-2 t c =
-    let p = c.requires in
-    let l = c.loop-least.invariant in
-    omega arith
+    let l = c.loop-row.invariant in
+    let h = tight-yes _ _ _ (sym c.tight.ensures ∙ c.loop-row-test.true) in
+    (omega arith, (omega arith, omega arith, asks _ c.args.row.formed _ _ c.least-least.ensures))
 
 pub store_pair-requires : goal.store_pair-requires
 store_pair-requires t c =
     let p = c.requires in
-    let l = c.loop-least.invariant in
-    let y = sym c.tight.ensures ∙ c.loop-least-test.true in
-    let h = tight-yes _ _ _ y in
-    omega (arith, c.climb1-next.auto.out)
+    let l = c.loop-row.invariant in
+    let h = tight-yes _ _ _ (sym c.tight.ensures ∙ c.loop-row-test.true) in
+    omega (arith, c.if-tight.auto.out)
 
-pub loop-least-smaller-then-tight : goal.loop-least-smaller-then-tight
-loop-least-smaller-then-tight t c =
-    let p = c.requires in
-    let l = c.loop-least.invariant in
-    let y = sym c.tight.ensures ∙ c.loop-least-test.true in
-    omega (arith, passed _ p.0 _ _ _ _ _ l y _ c.least-least.ensures _ _ c.climb1-next.ensures, within _ p.0 _ _ _ _ _ l y _ c.least-least.ensures _ _ c.climb1-next.ensures)
+pub loop-row-smaller : goal.loop-row-smaller
+loop-row-smaller t c =
+    let row = c.args.row in
+    let l = c.loop-row.invariant in
+    let y = sym c.tight.ensures ∙ c.loop-row-test.true in
+    let own : Climbs row.bytes.now (c.loop-row.i + 1) c.least-least.result c.if-tight.next c.loop-row.out c.if-tight.out =
+    elim c.if-tight.branch [
+      | then-tight w ↦ rw (w.out-is, w.next-is) w.climb1-next.ensures
+      | else-tight w ↦ rw (w.out-is, w.next-is) (alone _ row.formed _ _ _ (omega (arith, (tight-yes _ _ _ y).0)) (sym c.tight-in-loop-row.ensures ∙ w.if-tight.false))
+    ] in
+    omega (arith, passed _ row.formed _ _ _ _ _ l y _ c.least-least.ensures _ _ own, within _ row.formed _ _ _ _ _ l y _ c.least-least.ensures _ _ own)
 
-pub loop-least-preserved-then-tight : goal.loop-least-preserved-then-tight
-loop-least-preserved-then-tight t c =
-    let p = c.requires in
-    let l = c.loop-least.invariant in
-    let y = sym c.tight.ensures ∙ c.loop-least-test.true in
-    again _ p.0 _ _ _ _ _ l y _ c.least-least.ensures _ _ c.climb1-next.ensures p.4 _ c.store_pair.ensures c.climb1-next.auto.out
-
-pub overflow_mul-i-else-tight : goal.overflow_mul-i-else-tight
-overflow_mul-i-else-tight t c =
-    let p = c.requires in
-    let l = c.loop-least.invariant in
-    omega arith
-
-pub overflow_add-i-else-tight : goal.overflow_add-i-else-tight
-overflow_add-i-else-tight t c =
-    let p = c.requires in
-    let l = c.loop-least.invariant in
-    omega arith
-
-pub overflow_add-i-else-tight-2 : goal.overflow_add-i-else-tight-2
-overflow_add-i-else-tight-2 t c =
-    let p = c.requires in
-    let l = c.loop-least.invariant in
-    omega arith
-
-pub store_pair-requires-else-tight : goal.store_pair-requires-else-tight
-store_pair-requires-else-tight t c =
-    let p = c.requires in
-    let l = c.loop-least.invariant in
-    let y = sym c.tight.ensures ∙ c.loop-least-test.true in
-    let h = tight-yes _ _ _ y in
-    omega arith
-
-pub overflow_add-i-else-tight-3 : goal.overflow_add-i-else-tight-3
-overflow_add-i-else-tight-3 t c =
-    let p = c.requires in
-    let l = c.loop-least.invariant in
-    omega arith
-
-pub loop-least-smaller : goal.loop-least-smaller
-loop-least-smaller t c =
-    let p = c.requires in
-    let l = c.loop-least.invariant in
-    let y = sym c.tight.ensures ∙ c.loop-least-test.true in
-    omega (arith, (tight-yes _ _ _ y).0)
-
-pub loop-least-preserved : goal.loop-least-preserved
-loop-least-preserved t c =
-    let p = c.requires in
-    let l = c.loop-least.invariant in
-    let y = sym c.tight.ensures ∙ c.loop-least-test.true in
-    let h = tight-yes _ _ _ y in
-    let no_row = alone _ p.0 _ _ _ (omega arith) (sym c.tight-in-loop-least.ensures ∙ c.if-tight.false) in
-    again _ p.0 _ _ _ _ _ l y _ c.least-least.ensures _ _ no_row p.4 _ c.store_pair-else-tight.ensures refl
+pub loop-row-preserved : goal.loop-row-preserved
+loop-row-preserved t c =
+    let row = c.args.row in
+    let l = c.loop-row.invariant in
+    let y = sym c.tight.ensures ∙ c.loop-row-test.true in
+    let own : Climbs row.bytes.now (c.loop-row.i + 1) c.least-least.result c.if-tight.next c.loop-row.out c.if-tight.out =
+    elim c.if-tight.branch [
+      | then-tight w ↦ rw (w.out-is, w.next-is) w.climb1-next.ensures
+      | else-tight w ↦ rw (w.out-is, w.next-is) (alone _ row.formed _ _ _ (omega (arith, (tight-yes _ _ _ y).0)) (sym c.tight-in-loop-row.ensures ∙ w.if-tight.false))
+    ] in
+    again _ row.formed _ _ _ _ _ l y _ c.least-least.ensures _ _ own c.requires.2 _ c.store_pair.ensures c.if-tight.auto.out
 
 pub returns : goal.returns
-returns t c =
-    let p = c.requires in
-    done _ p.0 _ _ _ _ _ c.loop-least.invariant (sym c.tight.ensures ∙ c.loop-least-test.false)
+returns t c = done _ c.args.row.formed _ _ _ _ _ c.loop-row.invariant (sym c.tight.ensures ∙ c.loop-row-test.false)

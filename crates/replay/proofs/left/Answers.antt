@@ -1,18 +1,16 @@
--- `replay::left` meets its contract: after i turns the room is as it must be below i. Assumes nothing.
-use borrow.Author.Count.{below_more}
-use mathlib.Core.Path.{sym, ◌∙◌}
-use Rattle.replay.proofs.Rooms.{short, differs, equals}
-use borrow.Author.Rules.{rules}
+-- `replay::left` meets its contract: each byte of the room is compared with what is due. Assumes nothing.
+use Rattle.std.proofs.Common.{rules, tests}
+use Rattle.std.proofs.lemmas.Bool.{lt-leb}
+use Rattle.std.proofs.lemmas.Iterator.{YieldsList-from_slice}
+use Rattle.std.proofs.lemmas.Iterator.Consumers.{YieldsList-from_enumerate}
+use Rattle.std.proofs.lemmas.Iterator.Search.{all_from_yields_List}
+use Rattle.replay.proofs.Rooms.{short, is_due, compared}
 use Rattle.replay.proofs.left.Goals as goal
 
-pub returns-then-room-listing : goal.returns-then-room-listing
-returns-then-room-listing c = short _ _ c.if-room-listing.true
+pub returns-then-listing-room : goal.returns-then-listing-room
+returns-then-listing-room c =
+    compared _ _ _ c.if-listing-room.true
+    (all_from_yields_List (is_due c.args.listing.now) _ _ _ c.all.ensures.ran (YieldsList-from_enumerate (YieldsList-from_slice c.args.room.now cc) cc) (λ x b q k. search (rules, tests)))
 
-pub returns-then-room-i : goal.returns-then-room-i
-returns-then-room-i c = differs _ _ _ c.loop-i-test.true (λ e. c.if-room-i.true (e ∙ sym c.due.ensures))
-
-pub loop-i-preserved : goal.loop-i-preserved
-loop-i-preserved c = (search rules, c.loop-i.invariant.1, below_more _ _ c.loop-i.invariant.2 (c.if-room-i.false ∙ c.due.ensures))
-
-pub returns : goal.returns
-returns c = equals _ _ _ c.loop-i.invariant.1 c.loop-i-test.false c.loop-i.invariant.2
+pub returns-else-listing-room : goal.returns-else-listing-room
+returns-else-listing-room c = simp (lt-leb _ _ c.if-listing-room.false) (short _ _ c.if-listing-room.false)

@@ -1,21 +1,17 @@
--- `replay::turn` meets its contract: the bytes found at `at` are a case of the sample. Assumes nothing.
-use Prim.Native.Nat.{◌+◌, ◌≤◌}
-use lib.ListN.{length}
-use native.Mathlib.Omega.{arith}
-use Rattle.replay.proofs.Counts.{stopped, fits, part-whole, grows, turned}
+-- `replay::turn` meets its contract: what is counted is what the case shows. Assumes nothing.
+use Rattle.std.proofs.Common.{arith}
+use Rattle.replay.proofs.Cases.{as-long, as-parts}
 use Rattle.replay.proofs.turn.Goals as goal
 
-pub returns-then-long-eq0 : goal.returns-then-long-eq0
-returns-then-long-eq0 c = stopped _ _ _ _ _ c.requires.0 (λ f. f)
+pub holds-requires : goal.holds-requires
+holds-requires c = (omega (arith, c.in_ok-lent.ensures.lookup), as-long _ _ _ c.in_ok-case.ensures)
 
-pub replay_case-requires : goal.replay_case-requires
-replay_case-requires c =
-    let a = c.args in
-    let g : a.at + c.case_length-long.result ≤ length a.sample.now = fits a.sample.now a.at _ c.requires.0 c.case_length-long.ensures c.if-long-eq0.false in
-    (part-whole a.sample.now a.at _ c.requires.0 c.case_length-long.ensures c.if-long-eq0.false, grows _ a.at (omega arith) c.requires.1, grows _ a.at (omega arith) c.requires.2)
-
-pub returns-then-replay_case : goal.returns-then-replay_case
-returns-then-replay_case c = turned _ _ _ c.requires.0 c.case_length-long.ensures c.if-long-eq0.false _ _ _ _ _ c.requires.1.few c.requires.2.few c.if-replay_case.true c.replay_case.ensures
-
-pub returns-else-replay_case : goal.returns-else-replay_case
-returns-else-replay_case c = stopped _ _ _ _ _ c.requires.0 c.replay_case.ensures.kept
+pub returns : goal.returns
+returns c =
+    let case = c.in_ok-case.ensures in
+    let counted = c.count.ensures in
+    record {
+      few = counted.few;
+      kept = counted.kept;
+      holds = (case.size, case.some, case.within, case.behind, case.whole, λ f. as-parts _ _ _ _ case c.in_ok-entry.ensures (c.holds.ensures.0 (counted.faultless f)));
+    }
