@@ -9,7 +9,11 @@ ghost use Rattle.lexer.specs.Kind.{kind};
 pub fn letter(b: u8) -> bool
     ensures { result ≡ letter b }
 {
-    b.is_ascii_alphabetic() || b == b'_'
+    if b >= b'a' {
+        b <= b'z'
+    } else {
+        matches!(b, b'A'..=b'Z' | b'_')
+    }
 }
 
 // [0-9]
@@ -51,9 +55,13 @@ pub fn operator(b: u8) -> bool
 pub fn kind(b: u8) -> u8
     ensures { result ≡ kind b }
 {
+    if letter(b) {
+        return 1;
+    }
+    if digit(b) {
+        return 4;
+    }
     match b {
-        b'a'..=b'z' | b'A'..=b'Z' | b'_' => 1,
-        b'0'..=b'9' => 4,
         b'.' | b',' | b':' | b';' | b'?' => 5,
         b'|' | b'=' | b'+' | b'-' | b'*' | b'/' | b'<' | b'>' | b'!' | b'%' => 5,
         b'(' | b'[' | b'{' => 7,

@@ -124,7 +124,11 @@ pub fn space(s: &[u8], from: usize) -> usize
 fn bare(b: u8) -> bool
     ensures { result ≡ bare b }
 {
-    matches!(b, 0x00..=0x08 | 0x0E..=0x1F | b'!'..=b'"' | b'$'..=0x7F)
+    if b > b' ' {
+        b.is_ascii() && b != b'#'
+    } else {
+        b != b' ' && !matches!(b, b'\t'..=b'\r')
+    }
 }
 
 // The same as `space`, short enough to stand in its callers: between tokens there is mostly nothing, or one space.
