@@ -30,5 +30,5 @@ pub extern "C" fn filter_climb(row: &[u8], out: &mut [u8]) -> u64
 pub extern "C" fn filter_lex(source: &[u8], out: &mut [u8]) -> u64
     ensures { Packs (lexing source.now) out.old out.new result }
 {
-    pack(lexer::lex(source, out))
+    pack(Answer::from(lexer::lex(source, out)))
 }

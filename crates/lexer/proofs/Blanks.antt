@@ -1,6 +1,6 @@
 -- White space, a character at a time. Assumes nothing.
 use mathlib.Core.Path.{◌≡◌, refl, ◌∙◌}
-use mathlib.Core.Bool.{Bool, true, false, cond, not, beq}
+use mathlib.Core.Bool.{Bool, true, false, cond, not}
 use mathlib.Core.List.{List, []}
 use Prim.Native.Nat.{ℕ, ◌+◌, ◌≤◌, ◌<◌}
 use native.Mathlib.Omega.{arith}
@@ -14,7 +14,6 @@ use Rattle.text.specs.declared.Char.{Char}
 use Rattle.lexer.specs.Scan.{byte}
 use Rattle.lexer.specs.Space.{blank}
 use Rattle.lexer.specs.Meets.{Byte, bare}
-use Rattle.lexer.proofs.Every.{every, agree}
 
 no-blank : white_space 0 ≡ false
 unfolding white_space spaces
@@ -57,12 +56,12 @@ bare-not s at b g e =
     let t = three (ltb b 128) (white_space b) (eqb b 0x23) e in
     (rw (blank-ascii s at b g (ltb-true b 128 t.0), t.1), λ h. eqb-false b 0x23 t.2 (g.is ∙ h))
 
-module _ (s : List ℕ) (at b : ℕ) (g : Byte s at b) where
-  pub no-space : (low n : ℕ) → every (λ c. beq false (white_space c)) low n ≡ true → low ≤ b → b < low + n → b < 128 → at ≤ length s → (0 ≡ blank s at) × (at + 0 ≤ length s)
-  no-space low n e h k l a = (rw (blank-ascii s at b g l, ← agree (λ c. false) white_space low n e b h k), omega arith)
+module _ (s : List ℕ) (at b : ℕ) (g : Byte s at b) (l : b < 128) (a : at ≤ length s) where
+  pub no-space : white_space b ≡ false → (0 ≡ blank s at) × (at + 0 ≤ length s)
+  no-space w = (rw (blank-ascii s at b g l, w), omega arith)
 
-  pub a-space : (low n : ℕ) → every (λ c. beq true (white_space c)) low n ≡ true → low ≤ b → b < low + n → b < 128 → 0 < b → (1 ≡ blank s at) × (at + 1 ≤ length s)
-  a-space low n e h k l a = (rw (blank-ascii s at b g l, ← agree (λ c. true) white_space low n e b h k), omega (arith, g.within))
+  pub a-space : white_space b ≡ true → 0 < b → (1 ≡ blank s at) × (at + 1 ≤ length s)
+  a-space w z = (rw (blank-ascii s at b g l, w), omega (arith, g.within))
 
 module _ (s : List ℕ) (at : ℕ) (r : Char) (e : r ≡ char_at s at) where
   pub wide-space : white_space r.code ≡ true → at ≤ length s → (r.len ≡ blank s at) × (at + r.len ≤ length s)

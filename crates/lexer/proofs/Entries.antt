@@ -3,12 +3,15 @@ use mathlib.Core.Path.{◌≡◌, refl, ap, ◌∙◌}
 use mathlib.Core.List.{List, [], ◌∷◌, ◌++◌}
 use Prim.Native.Nat.{ℕ, suc, ◌+◌, ◌-◌, ◌≤◌, ◌<◌}
 use native.Mathlib.Omega.{arith}
+use Rattle.std.specs.Prelude.{Ok, Err}
 use lib.ListN.{length, take, drop, length-append}
 use lib.Seq.{take_at}
 use borrow.Author.Tests.{lt-ltb, le-ltb}
 use Rattle.fields.specs.Field.{field, length-field}
 use Rattle.fields.specs.Room.{overlay, overlay-front, length-overlay}
 use Rattle.fields.specs.declared.Answer.{Answer}
+use Rattle.fields.specs.declared.Refusal.TheVariants.{TooLong, NotWellFormed, TooDeep, NoRoom}
+use Rattle.fields.specs.Refusals.{answer_of}
 use Rattle.fields.specs.Outcome.{listing, refusal}
 use Rattle.fields.specs.Promises.{refused, short, listed}
 use Rattle.text.specs.Valid.{valid_prefix}
@@ -17,8 +20,9 @@ use Rattle.lexer.specs.Read.{Read, read, deep}
 use Rattle.lexer.specs.Listing.{edition, errors_bytes, error_bytes}
 use Rattle.lexer.specs.Lex.{whole}
 use Rattle.lexer.specs.Lexing as lexing
-use Rattle.lexer.specs.Meets.{Put}
-use Rattle.lexer.specs.Due.{deepness, tokens_due, errors_due, refused_as, Told}
+use Rattle.lexer.specs.Due.{tokens_due, errors_due, Holds, Both, Listed, Told}
+use Rattle.lexer.specs.declared.scan.TooDeep as nesting
+use Rattle.lexer.specs.declared.Sizes.{Sizes}
 use Rattle.lexer.proofs.Facts.Shape.{stands}
 use Rattle.lexer.proofs.Facts.Promises.{whole-onward}
 
@@ -35,69 +39,76 @@ errors-some : (e : Error) (es : List Error) → 0 < length (errors_bytes 2 (e �
 unfolding errors_bytes error_bytes field
 errors-some e es = omega arith
 
-pub due-errors : (q : Read) → deepness q ≡ 0 → 4 < length (errors_due q) → lexing.listed 2 q ≡ listing 1 (errors_due q)
+-- what stands in the rooms, where nesting is not refused
+both : (q : Read) (d d' x x' : List ℕ) (r : Sizes) → Listed q d d' x x' (Ok r) → Both q d d' x x' r
+both (read at ts es) d d' x x' r l = l.lists
+both (deep p) d d' x x' r l = absurd l.lists
+
+pub due-errors : (q : Read) (d d' x x' : List ℕ) (r : Sizes) → Listed q d d' x x' (Ok r) → 4 < r.errors → lexing.listed 2 q ≡ listing 1 (errors_due q)
 unfolding lexing.listed
-due-errors (deep p) h k = absurd (omega arith)
-due-errors (read at ts []) h k = absurd (none (length-edition-more (errors_bytes 2 [])))
+due-errors (deep p) d d' x x' r l k = absurd l.lists
+due-errors (read at ts []) d d' x x' r l k = absurd (none (length-edition-more (errors_bytes 2 [])))
   where
     none : length (edition ++ errors_bytes 2 []) ≡ 4 + length (errors_bytes 2 []) → ⊥
-    none e = unfold errors_bytes in omega arith
-due-errors (read at ts (e ∷ es)) h k = refl
+    none n = unfold errors_bytes in omega (arith, l.lists.errors.size)
+due-errors (read at ts (e ∷ es)) d d' x x' r l k = refl
 
-pub due-tokens : (q : Read) → deepness q ≡ 0 → length (errors_due q) ≤ 4 → lexing.listed 2 q ≡ listing 0 (tokens_due q)
+pub due-tokens : (q : Read) (d d' x x' : List ℕ) (r : Sizes) → Listed q d d' x x' (Ok r) → r.errors ≤ 4 → lexing.listed 2 q ≡ listing 0 (tokens_due q)
 unfolding lexing.listed
-due-tokens (deep p) h k = absurd (omega arith)
-due-tokens (read at ts []) h k = refl
-due-tokens (read at ts (e ∷ es)) h k = absurd (omega (arith, length-edition-more (errors_bytes 2 (e ∷ es)), errors-some e es))
+due-tokens (deep p) d d' x x' r l k = absurd l.lists
+due-tokens (read at ts []) d d' x x' r l k = refl
+due-tokens (read at ts (e ∷ es)) d d' x x' r l k = absurd (omega (arith, l.lists.errors.size, length-edition-more (errors_bytes 2 (e ∷ es)), errors-some e es))
 
-pub due-deep : (q : Read) (n : ℕ) → n ≡ deepness q → (n ≡ 0 → ⊥) → lexing.listed 2 q ≡ refusal 4 (n - 1)
+due-deep : (q : Read) (d d' x x' : List ℕ) (z : nesting.TooDeep) → Listed q d d' x x' (Err z) → lexing.listed 2 q ≡ refusal 4 z.place
 unfolding lexing.listed
-due-deep (read at ts es) n e h = absurd (h e)
-due-deep (deep p) n e h = let k : n - 1 ≡ p = omega arith in rw k
+due-deep (read at ts es) d d' x x' z l = absurd l.lists
+due-deep (deep p) d d' x x' z l = rw l.lists
 
 -- ---- the returns
 
 -- the opener that is too many stands in the source
-deep-near : (s : List ℕ) (n : ℕ) → n ≡ deepness (whole s) → n - 1 ≤ length s
-deep-near s n e = go (whole s) refl (whole-onward s).high
+deep-near : (s d d' x x' : List ℕ) (z : nesting.TooDeep) → Listed (whole s) d d' x x' (Err z) → z.place ≤ length s
+deep-near s d d' x x' z l = go (whole s) l (whole-onward s).high
   where
-    go : (q : Read) → whole s ≡ q → stands q ≤ length s → n - 1 ≤ length s
-    go (read at ts es) f h = let k : n ≡ 0 = e ∙ ap deepness f in omega arith
-    go (deep p) f h = let k : n ≡ suc p = e ∙ ap deepness f in omega arith
+    go : (q : Read) → Listed q d d' x x' (Err z) → stands q ≤ length s → z.place ≤ length s
+    go (read at ts es) l h = absurd l.lists
+    go (deep p) l h = omega (arith, l.lists)
 
-pub told-deep : (s d : List ℕ) (n : ℕ) → length s ≤ 32768 → n ≡ deepness (whole s) → (n ≡ 0 → ⊥) → Told (lexing.listed 2 (whole s)) d d (refused_as 4 (n - 1))
-told-deep s d n h e k = record { answers = rw (due-deep (whole s) n e k) (refused 4 (n - 1) d); few = omega arith; near = omega (arith, deep-near s n e) }
+pub told-deep : (s d d' x x' o : List ℕ) (z : nesting.TooDeep) → length s ≤ 32768 → Listed (whole s) d d' x x' (Err z) → Told (lexing.listed 2 (whole s)) o o (answer_of (Err (TooDeep z.place)))
+told-deep s d d' x x' o z h l = record { answers = rw (due-deep (whole s) d d' x x' z l) (refused 4 z.place o); few = omega arith; near = omega (arith, deep-near s d d' x x' z l) }
 
-module _ (s d : List ℕ) (z : deepness (whole s) ≡ 0) where
-  module _ (few : length (errors_due (whole s)) ≤ 4) where
-    pub tokens-short : length d < length (tokens_due (whole s)) → Told (lexing.listed 2 (whole s)) d d (refused_as 7 0)
-    tokens-short h = record { answers = rw (due-tokens (whole s) z few) (short 0 (tokens_due (whole s)) d h); few = omega arith; near = omega arith }
+-- a listing is due, so that nesting is not refused
+pub never : (s : List ℕ) (n : ℕ) (bs d d' x x' : List ℕ) (z : nesting.TooDeep) → lexing.listed 2 (whole s) ≡ listing n bs → Listed (whole s) d d' x x' (Err z) → ⊥
+never s n bs d d' x x' z h l = let k = due-deep (whole s) d d' x x' z l in cc
 
-    pub tokens-told : (d' : List ℕ) (k : ℕ) → k ≡ length (tokens_due (whole s)) → k ≤ length d → k ≤ 1048576 → d' ≡ overlay d 0 (tokens_due (whole s)) → Told (lexing.listed 2 (whole s)) d d' (record { number = 0; length = k; place = 0 })
-    tokens-told d' k e h b l = record { answers = rw (due-tokens (whole s) z few) (listed 0 k (tokens_due (whole s)) d d' e (omega arith) l); few = b; near = omega arith }
+module _ (s o : List ℕ) (n k : ℕ) (bs : List ℕ) (h : lexing.listed 2 (whole s) ≡ listing n bs) (e : k ≡ length bs) where
+  pub told-short : length o < k → Told (lexing.listed 2 (whole s)) o o (answer_of (Err NoRoom))
+  told-short l = record { answers = rw h (short n bs o (omega arith)); few = omega arith; near = omega arith }
 
-  module _ (some : 4 < length (errors_due (whole s))) where
-    pub errors-short : length d < length (errors_due (whole s)) → Told (lexing.listed 2 (whole s)) d d (refused_as 7 0)
-    errors-short h = record { answers = rw (due-errors (whole s) z some) (short 1 (errors_due (whole s)) d h); few = omega arith; near = omega arith }
+  pub told : (o' : List ℕ) → k ≤ length o → k ≤ 1048576 → o' ≡ overlay o 0 bs → Told (lexing.listed 2 (whole s)) o o' (record { number = n; length = k; place = 0 })
+  told o' m b l = record { answers = rw h (listed n k bs o o' e (omega arith) l); few = b; near = omega arith }
 
-    pub errors-told : (d' : List ℕ) (k : ℕ) → k ≡ length (errors_due (whole s)) → k ≤ length d → k ≤ 1048576 → d' ≡ overlay d 0 (errors_due (whole s)) → Told (lexing.listed 2 (whole s)) d d' (record { number = 1; length = k; place = 0 })
-    errors-told d' k e h b l = record { answers = rw (due-errors (whole s) z some) (listed 1 k (errors_due (whole s)) d d' e (omega arith) l); few = b; near = omega arith }
+-- what the room holds, once the source was read to its end
+pub errors-hold : (s d d' x x' : List ℕ) (r : Sizes) → Listed (whole s) d d' x x' (Ok r) → Holds x (errors_due (whole s)) x' r.errors
+errors-hold s d d' x x' r l = (both (whole s) d d' x x' r l).errors
+
+pub tokens-hold : (s d d' x x' : List ℕ) (r : Sizes) → Listed (whole s) d d' x x' (Ok r) → Holds d (tokens_due (whole s)) d' r.tokens
+tokens-hold s d d' x x' r l = (both (whole s) d d' x x' r l).tokens
 
 -- what went into the scratch whole can be taken out of it
-pub scratched : (x x' bs : List ℕ) (k : ℕ) → Put x 0 bs x' k → k ≤ length x' → take k x' ≡ bs
+pub scratched : (x x' bs : List ℕ) (k : ℕ) → Holds x bs x' k → k ≤ length x' → take k x' ≡ bs
 scratched x x' bs k w h =
     let l : length x' ≡ length x = ap length w.room ∙ length-overlay x 0 bs in
-    let n : k ≡ length bs = omega (arith, w.next) in
-    rw (n, w.room, overlay-front x bs (omega arith)) (take_at bs (drop (length bs) x) (length bs) refl)
+    rw (w.size, w.room, overlay-front x bs (omega (arith, w.size))) (take_at bs (drop (length bs) x) (length bs) refl)
 
 -- ---- the entry
 
 module _ (s d : List ℕ) where
-  pub long : 32768 < length s → Told (lexing.lexing s) d d (refused_as 2 0)
+  pub long : 32768 < length s → Told (lexing.lexing s) d d (answer_of (Err TooLong))
   unfolding lexing.lexing
   long h = record { answers = simp (lt-ltb _ _ h) (refused 2 0 d); few = omega arith; near = omega arith }
 
-  pub invalid : length s ≤ 32768 → valid_prefix s < length s → Told (lexing.lexing s) d d (refused_as 3 (valid_prefix s))
+  pub invalid : length s ≤ 32768 → valid_prefix s < length s → Told (lexing.lexing s) d d (answer_of (Err (NotWellFormed (valid_prefix s))))
   unfolding lexing.lexing
   invalid h k = record { answers = simp (le-ltb _ _ h, lt-ltb _ _ k) (refused 3 (valid_prefix s) d); few = omega arith; near = omega arith }
 

@@ -11,11 +11,11 @@ unfoldable pub every : (ℕ → Bool) → ℕ → ℕ → Bool
 every t low zero = true
 every t low (suc n) = t low && every t (suc low) n
 
-both_left : (a b : Bool) → a && b ≡ true → a ≡ true
+pub both_left : (a b : Bool) → a && b ≡ true → a ≡ true
 both_left true b e = refl
 both_left false b e = e
 
-both_right : (a b : Bool) → a && b ≡ true → b ≡ true
+pub both_right : (a b : Bool) → a && b ≡ true → b ≡ true
 both_right true b e = e
 both_right false b e = absurd (go e)
   where

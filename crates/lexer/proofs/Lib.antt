@@ -1,7 +1,6 @@
 -- Laws that the proofs of several functions cite.
 pub mod Every
 pub mod Past
-pub mod Counts
 pub mod Puts
 pub mod Scans
 pub mod Words

@@ -1,106 +1,82 @@
 -- The lines of a comment. Assumes nothing.
-use mathlib.Core.Path.{◌≡◌, refl, sym, ap}
-use mathlib.Core.Bool.{Bool, true, false, cond, not}
-use mathlib.Core.List.{List}
-use Prim.Native.Nat.{ℕ, zero, suc, ◌+◌, ◌-◌, ◌%◌, ◌≤◌, ◌<◌}
-use native.Mathlib.Nat.{add-zero, add-suc}
+use mathlib.Core.Path.{◌≡◌, refl, sym, ap, ◌∙◌}
+use mathlib.Core.Bool.{Bool, true, false, cond}
+use mathlib.Core.List.{List, [], ◌∷◌}
+use Prim.Native.Nat.{ℕ, zero, suc, ◌+◌, ◌-◌, ◌%◌, ◌≤◌}
 use native.Mathlib.Numerals.{add-one}
 use native.Mathlib.Omega.{arith}
-use lib.ListN.{length, get_or}
+use lib.ListN.{length, take, drop, get_or, length-drop}
+use lib.Seq.{drop-cons}
 use lib.Dec.{eqb}
-use borrow.Author.Tests.{eq-eqb, ne_eqb}
+use Rattle.std.proofs.Common.{Bor, Option, Some, None, MatchOption, unwrap_or}
+use Rattle.std.specs.Cmp.Lexicographic.{pointwise}
+use Rattle.std.proofs.Math.Bool.{and-true}
+use Rattle.std.specs.List.{suffix_len}
+use Rattle.std.proofs.lemmas.List.{get_or-drop, drop-take, take-take, length-take-le}
+use Rattle.std.proofs.lemmas.List.Sums.{suffix_len-take_yes, suffix_len-take_no}
 use Rattle.lexer.specs.Scan.{byte}
-use Rattle.lexer.specs.Space.{in_line, less_cr, slashes, goes_on}
-use Rattle.lexer.specs.Meets.{counts, Going}
-use Rattle.lexer.proofs.Past.{more}
+use Rattle.lexer.specs.Space.{less_cr, slashes, goes_on}
 
-pub in-line : (b : ℕ) → (b ≡ 0x0A → ⊥) → in_line b ≡ true
-unfolding in_line
-in-line b n = simp (ne_eqb b 0x0A n)
+-- whether a list ends in CR
+abbrev pub ends : List ℕ → Bool
+ends line = pointwise eqb (drop (length line - 1) line) (0x0D ∷ [])
 
-pub at-newline : (b : ℕ) → b ≡ 0x0A → in_line b ≡ false
-unfolding in_line
-at-newline b h = simp (eq-eqb b 0x0A h)
+module _ (s : List ℕ) (at : ℕ) where
+  last-is : (n : ℕ) → at + suc n ≤ length s → drop n (take (suc n) (drop at s)) ≡ byte s (at + n) ∷ []
+  last-is n h =
+      let xs = drop at s in
+      let d : drop n (take (n + 1) xs) ≡ take 1 (drop n xs) = drop-take n 1 xs in
+      rw (← add-one, d, drop-cons xs n 0 (omega (arith, length-drop at s)), get_or-drop at s n 0)
 
--- ---- blocks without a newline
+  line-length : (n : ℕ) → at + n ≤ length s → length (take n (drop at s)) ≡ n
+  line-length n h = length-take-le n (drop at s) (omega (arith, length-drop at s))
 
-none : (b : Bool) → ◌≡◌ {A = ℕ} (cond b 1 0) 0 → not b ≡ true
-none false e = refl
-none true e = absurd (omega arith)
+  ends-is : (n : ℕ) → at + suc n ≤ length s → ends (take (suc n) (drop at s)) ≡ eqb (byte s (at + n)) 0x0D
+  ends-is n h =
+      let k : length (take (suc n) (drop at s)) - 1 ≡ n = omega (arith, line-length (suc n) h) in
+      rw (k, last-is n h) (and-true (eqb (byte s (at + n)) 0x0D))
 
-no-newline : (b : ℕ) → ◌≡◌ {A = ℕ} (cond (eqb b 0x0A) 1 0) 0 → in_line b ≡ true
-unfolding in_line
-no-newline b e = none (eqb b 0x0A) e
-
-going-counts : (s : List ℕ) (at i n : ℕ) → Going in_line s at i → i + n ≤ length s → counts 0x0A s i n ≡ 0 → Going in_line s at (i + n)
-unfolding counts
-going-counts s at i zero g h e = rw add-zero g
-going-counts s at i (suc n) g h e =
-    rw (add-suc, ← add-one)
-    (more in_line s at (i + n) (going-counts s at i n g (omega arith) (omega arith)) (omega arith) (no-newline (byte s (i + n)) (omega arith)))
-
-pub going-block : (s : List ℕ) (at i n r : ℕ) → Going in_line s at i → i + n ≤ length s → r ≡ counts 0x0A s i n → r ≡ 0 → Going in_line s at (i + n)
-going-block s at i n r g h e z = going-counts s at i n g h (cc)
-
--- ---- the end of a line
-
-module _ (s : List ℕ) (at end : ℕ) where
-  pub cr : at < end → get_or s (end - 1) 0 ≡ 0x0D → (end - 1 ≡ at + less_cr s at (end - at)) × (at ≤ end - 1) × (end - 1 ≤ end)
+  -- what is left of a line without one trailing CR
+  kept : (n : ℕ) (b : Bool) → at + n ≤ length s → ends (take n (drop at s)) ≡ b → cond b (take (n - 1) (drop at s)) (take n (drop at s)) ≡ take (less_cr s at n) (drop at s)
   unfolding less_cr
-  cr h e =
-      let i : end - at ≡ suc (end - 1 - at) = omega arith in
-      let j : at + (end - 1 - at) ≡ end - 1 = omega arith in
-      (rw i (rw (j, e) (sym j)), omega arith, omega arith)
+  kept zero true h e = refl
+  kept zero false h e = refl
+  kept (suc n) true h e = let k : suc n - 1 ≡ n = omega arith in rw (k, sym (ends-is n h) ∙ e)
+  kept (suc n) false h e = rw (sym (ends-is n h) ∙ e)
 
-  pub no-cr : at < end → (get_or s (end - 1) 0 ≡ 0x0D → ⊥) → (end ≡ at + less_cr s at (end - at)) × (at ≤ end) × (end ≤ end)
-  unfolding less_cr
-  no-cr h n =
-      let i : end - at ≡ suc (end - 1 - at) = omega arith in
-      let j : at + (end - 1 - at) ≡ end - 1 = omega arith in
-      (rw i (rw (j, ne_eqb _ _ n) (omega arith)), omega arith, omega arith)
+  pub stripped : (n : ℕ) (line : Bor (List ℕ)) (o : Option (Bor (List ℕ))) → at + n ≤ length s → line.now ≡ take n (drop at s)
+      → MatchOption o (ends line.now ≡ false) (λ x. (ends line.now ≡ true) × (x.now ≡ take (length line.now - 1) line.now) × (length x.now + 1 ≡ length line.now))
+      → (unwrap_or o line).now ≡ take (less_cr s at n) (drop at s)
+  stripped n line None h i m = i ∙ kept n false h (ap ends (sym i) ∙ m)
+  stripped n line (Some x) h i m =
+      let k : length line.now - 1 ≡ n - 1 = omega (arith, ap length i, line-length n h) in
+      m.1 ∙ rw (k, i, take-take (n - 1) n (drop at s) (omega arith)) (kept n true h (ap ends (sym i) ∙ m.0))
 
-  pub empty-line : end ≤ at → at ≤ end → (end ≡ at + less_cr s at (end - at)) × (at ≤ end) × (end ≤ end)
-  unfolding less_cr
-  empty-line h k = let i : end - at ≡ 0 = omega arith in (rw i (omega arith), omega arith, omega arith)
-
-  -- a loop back over backslashes
-  pub record Counting (last i : ℕ) : Type 0 where
-    pub sum : last - i + slashes s at (i - at) ≡ slashes s at (last - at)
-    pub low : at ≤ i
-    pub high : i ≤ last
-    pub less : last ≡ at + less_cr s at (end - at)
-    pub inside : last ≤ end
-
-  pub count-start : (last : ℕ) → (last ≡ at + less_cr s at (end - at)) × (at ≤ last) × (last ≤ end) → Counting last last
-  count-start last h = record { sum = omega arith; low = h.1; high = omega arith; less = h.0; inside = h.2 }
-
-  one_more : (i : ℕ) → at < i → get_or s (i - 1) 0 ≡ 0x5C → slashes s at (i - at) ≡ suc (slashes s at (i - 1 - at))
+  slashes-is : (n : ℕ) → at + n ≤ length s → suffix_len (λ b. eqb b 0x5C) (take n (drop at s)) ≡ slashes s at n
   unfolding slashes
-  one_more i h e =
-      let k : i - at ≡ suc (i - 1 - at) = omega arith in
-      let j : at + (i - 1 - at) ≡ i - 1 = omega arith in
-      rw k (rw (j, e))
+  slashes-is zero h = refl
+  slashes-is (suc n) h = go (eqb (byte s (at + n)) 0x5C) refl (slashes-is n (omega arith))
+    where
+      here : get_or (drop at s) (suc n - 1) 0 ≡ byte s (at + n)
+      here = let k : suc n - 1 ≡ n = omega arith in rw k (get_or-drop at s n 0)
 
-  no_more : (i : ℕ) → at < i → (get_or s (i - 1) 0 ≡ 0x5C → ⊥) → slashes s at (i - at) ≡ 0
-  unfolding slashes
-  no_more i h n =
-      let k : i - at ≡ suc (i - 1 - at) = omega arith in
-      let j : at + (i - 1 - at) ≡ i - 1 = omega arith in
-      rw k (rw (j, ne_eqb _ _ n))
+      go : (b : Bool) → eqb (byte s (at + n)) 0x5C ≡ b → suffix_len (λ b. eqb b 0x5C) (take n (drop at s)) ≡ slashes s at n → suffix_len (λ b. eqb b 0x5C) (take (suc n) (drop at s)) ≡ cond b (suc (slashes s at n)) zero
+      go true e f =
+          let k : suc n - 1 ≡ n = omega arith in
+          let m = suffix_len-take_yes (λ b. eqb b 0x5C) (drop at s) (suc n) 0 (omega arith) (omega (arith, length-drop at s)) (ap (λ b. eqb b 0x5C) here ∙ e) in
+          rw k at m ∙ omega (arith, f)
+      go false e f = suffix_len-take_no (λ b. eqb b 0x5C) (drop at s) (suc n) 0 (omega arith) (omega (arith, length-drop at s)) (ap (λ b. eqb b 0x5C) here ∙ e)
 
-  pub count-more : (last i : ℕ) → Counting last i → at < i → get_or s (i - 1) 0 ≡ 0x5C → Counting last (i - 1)
-  count-more last i g h e = record { sum = omega (arith, g.sum, one_more i h e, g.high); low = omega arith; high = omega (arith, g.high); less = g.less; inside = g.inside }
+  less-cr-low : (n : ℕ) → less_cr s at n ≤ n
+  unfolding less_cr
+  less-cr-low zero = omega arith
+  less-cr-low (suc n) = go (eqb (byte s (at + n)) 0x0D)
+    where
+      go : (b : Bool) → cond b n (suc n) ≤ suc n
+      go true = omega arith
+      go false = omega arith
 
-  counted : (last i : ℕ) → Counting last i → slashes s at (i - at) ≡ 0 → eqb ((last - i) % 2) 1 ≡ goes_on s at (end - at)
+  -- whether a line goes on, by the backslashes that it ends in
+  pub goes-on-is : (n r : ℕ) (line : List ℕ) → at + n ≤ length s → line ≡ take (less_cr s at n) (drop at s) → r ≡ suffix_len (λ b. eqb b 0x5C) line → eqb (r % 2) 1 ≡ goes_on s at n
   unfolding goes_on
-  counted last i g z =
-      let k : last - at ≡ less_cr s at (end - at) = omega (arith, g.less) in
-      let l : last - i ≡ slashes s at (less_cr s at (end - at)) = omega (arith, g.sum, z, ap (λ (n : ℕ). slashes s at n) k) in
-      rw l
-
-  pub count-stop : (last i : ℕ) → Counting last i → at < i → (get_or s (i - 1) 0 ≡ 0x5C → ⊥) → eqb ((last - i) % 2) 1 ≡ goes_on s at (end - at)
-  count-stop last i g h n = counted last i g (no_more i h n)
-
-  pub count-all : (last i : ℕ) → Counting last i → i ≤ at → eqb ((last - i) % 2) 1 ≡ goes_on s at (end - at)
-  unfolding slashes
-  count-all last i g h = counted last i g (let k : i - at ≡ 0 = omega arith in rw k)
+  goes-on-is n r line h l e = rw (e, l, slashes-is (less_cr s at n) (omega (arith, less-cr-low n)))

@@ -4,6 +4,7 @@ use mathlib.Core.Bool.{cond}
 use mathlib.Core.List.{List, []}
 use Prim.Native.Nat.{ℕ, zero, suc, ◌+◌, ◌-◌, ◌*◌, ◌≤◌, ◌<◌}
 use native.Mathlib.Omega.{arith}
+use Rattle.std.specs.Prelude.{Result, Ok, Err, IfOk}
 use lib.ListN.{length}
 use lib.Dec.{eqb}
 use borrow.Author.Tests.{eq-eqb, ne_eqb}
@@ -17,231 +18,234 @@ use Rattle.lexer.specs.Read.{Read, and_then}
 use Rattle.lexer.specs.Lex.{leaf_at, close, text, quote, tokens, token, block, str, parts, escape}
 use Rattle.lexer.specs.Listing.{errors_bytes}
 use Rattle.lexer.specs.Meets.{Byte, Reaches, Is, Ready, Paid, Reads, Lexes, Texts, Quotes, Encloses}
-use Rattle.lexer.specs.declared.scan.State.{State}
+use Rattle.lexer.specs.declared.put.Room.{Room}
+use Rattle.lexer.specs.declared.scan.TooDeep.{TooDeep}
 use Rattle.lexer.proofs.Puts.{put-none}
 use Rattle.lexer.proofs.Scans.{hit, miss}
-use Rattle.lexer.proofs.Escapes.{moved}
-use Rattle.lexer.proofs.Readings.{is-nothing, is-after, is-then, is_stop, is-enclose, is-enclose-stop}
+use Rattle.lexer.proofs.Readings.{left, is-nothing, is-after, is-then, is_stop, is-enclose, is-enclose-stop}
 
 -- a number that is above another is no zero
 pub fuelled : (P : ℕ → Type 0) (m : ℕ) → ((j : ℕ) → m ≤ j → P (suc j)) → (k : ℕ) → m < k → P k
 fuelled P m f zero h = absurd (omega arith)
 fuelled P m f (suc k) h = f k (omega arith)
 
--- what follows an opener, behind the seven bytes that are left for its record
-abbrev pub inner : State → State
-inner st = record { at = st.at + 1; tokens = st.tokens + 7; errors = st.errors; deep = 0 }
+-- A loop over siblings: whatever f finds from p on, it finds from the start on.
+pub record Going (f : ℕ → ℕ → Read) (c : ℕ) (s : List ℕ) (at p : ℕ) (t₀ t e₀ e : Room) : Type 0 where
+  pub goes : (r : Result ℕ TooDeep) (t' e' : Room) → ((k : ℕ) → 3 * (length s - p) + c < k → Is (f k p) t t' e e' r)
+      → (k : ℕ) → 3 * (length s - at) + c < k → Is (f k at) t₀ t' e₀ e' r
+  pub paid : Paid s 0 0 at t₀ t e₀ e p
+  pub ready : Ready s p t e
+  pub out : t.bytes.ghost_name ≡ t₀.bytes.ghost_name
+  pub err : e.bytes.ghost_name ≡ e₀.bytes.ghost_name
 
--- an opener that nests too deep
-abbrev pub refused : State → State
-refused st = record { at = st.at + 1; tokens = st.tokens; errors = st.errors; deep = st.at + 1 }
-
--- A loop over siblings: whatever f finds from p on, it finds from st on.
-pub record Going (f : ℕ → ℕ → Read) (c : ℕ) (s : List ℕ) (st p : State) (d₀ d x₀ x : List ℕ) : Type 0 where
-  pub goes : (r : State) (d' x' : List ℕ) → ((k : ℕ) → 3 * (length s - p.at) + c < k → Is (f k p.at) p.tokens p.errors d d' x x' r)
-      → (k : ℕ) → 3 * (length s - st.at) + c < k → Is (f k st.at) st.tokens st.errors d₀ d' x₀ x' r
-  pub paid : Paid s 0 0 st p
-  pub ready : Ready s p
-  pub out : length d ≡ length d₀
-  pub err : length x ≡ length x₀
-
-pub go : (f : ℕ → ℕ → Read) (c : ℕ) (s : List ℕ) (st : State) (d x : List ℕ) → Ready s st → Going f c s st st d d x x
-go f c s st d x a = record {
-  goes = λ r d' x' i. i;
+pub go : (f : ℕ → ℕ → Read) (c : ℕ) (s : List ℕ) (at : ℕ) (t e : Room) → Ready s at t e → Going f c s at at t t e e
+go f c s at t e a = record {
+  goes = λ r t' e' i. i;
   paid = record { low = omega arith; high = a.place; tokens = omega arith; errors = omega arith };
   ready = a;
   out = refl;
   err = refl;
 }
 
--- tokens, in a turn of the loop: space to a, where a byte b of kind t stands
-module _ (s : List ℕ) (n : ℕ) (st p : State) (d₀ d x₀ x : List ℕ) (g : Going (λ k i. tokens k s n i) 3 s st p d₀ d x₀ x)
-    (a b t : ℕ) (h : Reaches (space s p.at) s p.at a) (i : Byte s a b) (e : t ≡ kind b) where
-  is-kind : (v : ℕ) → eqb t v ≡ eqb (kind (byte s (space s p.at))) v
-  is-kind v = ap (λ (m : ℕ). eqb m v) (e ∙ ap kind (i.is ∙ ap (λ (m : ℕ). byte s m) h.is))
+-- tokens, in a turn of the loop: space to a, where a byte b of kind v stands
+module _ (s : List ℕ) (n at p : ℕ) (t₀ t e₀ e : Room) (g : Going (λ k i. tokens k s n i) 3 s at p t₀ t e₀ e)
+    (a b v : ℕ) (h : Reaches (space s p) s p a) (i : Byte s a b) (y : v ≡ kind b) where
+  is-kind : (u : ℕ) → eqb v u ≡ eqb (kind (byte s (space s p))) u
+  is-kind u = ap (λ (m : ℕ). eqb m u) (y ∙ ap kind (i.is ∙ ap (λ (m : ℕ). byte s m) h.is))
 
-  pub tokens-end : t ≡ 0 → Lexes (λ k. tokens k s n st.at) (3 * (length s - st.at) + 3) s 0 0 st d₀ d x₀ x (moved p a)
+  pub tokens-end : v ≡ 0 → Lexes (λ k. tokens k s n at) (3 * (length s - at) + 3) s 0 0 at t₀ t e₀ e (Ok a)
   unfolding tokens
   tokens-end z = record {
-    is = g.goes (moved p a) d x (fuelled (λ k. Is (tokens k s n p.at) p.tokens p.errors d d x x (moved p a)) (3 * (length s - p.at) + 3)
-        (λ j l. rw (sym (is-kind 0) ∙ eq-eqb t 0 z, ← h.is) (is-nothing a p.tokens p.errors d x)));
+    is = g.goes (Ok a) t e (fuelled (λ k. Is (tokens k s n p) t t e e (Ok a)) (3 * (length s - p) + 3)
+        (λ j l. rw (sym (is-kind 0) ∙ eq-eqb v 0 z, ← h.is) (is-nothing a t e)));
     paid = record { low = omega (arith, g.paid.low, h.low); high = h.high; tokens = omega (arith, g.paid.tokens, h.low); errors = omega (arith, g.paid.errors, h.low) };
+    out = g.out;
+    err = g.err;
   }
 
-  module _ (q : State) (d₁ x₁ : List ℕ) (z : t ≡ 0 → ⊥) (w : Lexes (λ k. token k s n a) (3 * (length s - a) + 2) s 1 0 (moved p a) d d₁ x x₁ q) where
-    pub tokens-more : q.deep ≡ 0 → length d₁ ≡ length d → length x₁ ≡ length x → Going (λ k i. tokens k s n i) 3 s st q d₀ d₁ x₀ x₁
+  module _ (t₁ e₁ : Room) (z : v ≡ 0 → ⊥) where
+    pub tokens-more : (q : ℕ) → Lexes (λ k. token k s n a) (3 * (length s - a) + 2) s 1 0 a t t₁ e e₁ (Ok q) → Going (λ k i. tokens k s n i) 3 s at q t₀ t₁ e₀ e₁
     unfolding tokens
-    tokens-more y m o = record {
-      goes = λ r d' x' f. g.goes r d' x' (fuelled (λ k. Is (tokens k s n p.at) p.tokens p.errors d d' x x' r) (3 * (length s - p.at) + 3)
-          (λ j l. rw (sym (is-kind 0) ∙ ne_eqb t 0 z, ← h.is)
-          (is-then (token j s n a) (λ i. tokens j s n i) p.tokens p.errors d d₁ d' x x₁ x' q r (w.is j (omega (arith, h.low, h.high))) y (f j (omega (arith, h.low, w.paid.low, w.paid.high))))));
+    tokens-more q w = record {
+      goes = λ r t' e' f. g.goes r t' e' (fuelled (λ k. Is (tokens k s n p) t t' e e' r) (3 * (length s - p) + 3)
+          (λ j l. rw (sym (is-kind 0) ∙ ne_eqb v 0 z, ← h.is)
+          (is-then (token j s n a) (λ i. tokens j s n i) t t₁ t' e e₁ e' q r (w.is j (omega (arith, h.low, h.high))) (f j (omega (arith, h.low, w.paid.low, w.paid.high))))));
       paid = record { low = omega (arith, g.paid.low, h.low, w.paid.low); high = w.paid.high; tokens = omega (arith, g.paid.tokens, h.low, w.paid.tokens); errors = omega (arith, g.paid.errors, h.low, w.paid.errors) };
       ready = record { place = w.paid.high; tokens = omega (arith, g.ready.tokens, h.low, w.paid.tokens); errors = omega (arith, g.ready.errors, h.low, w.paid.errors) };
-      out = m ∙ g.out;
-      err = o ∙ g.err;
+      out = w.out ∙ g.out;
+      err = w.err ∙ g.err;
     }
 
-    pub tokens-deep : (q.deep ≡ 0 → ⊥) → Lexes (λ k. tokens k s n st.at) (3 * (length s - st.at) + 3) s 0 0 st d₀ d₁ x₀ x₁ q
+    pub tokens-deep : (x : TooDeep) → Lexes (λ k. token k s n a) (3 * (length s - a) + 2) s 1 0 a t t₁ e e₁ (Err x) → Lexes (λ k. tokens k s n at) (3 * (length s - at) + 3) s 0 0 at t₀ t₁ e₀ e₁ (Err x)
     unfolding tokens
-    tokens-deep y = record {
-      is = g.goes q d₁ x₁ (fuelled (λ k. Is (tokens k s n p.at) p.tokens p.errors d d₁ x x₁ q) (3 * (length s - p.at) + 3)
-          (λ j l. rw (sym (is-kind 0) ∙ ne_eqb t 0 z, ← h.is)
-          (is_stop (token j s n a) (λ i. tokens j s n i) p.tokens p.errors d d₁ x x₁ q (w.is j (omega (arith, h.low, h.high))) y)));
-      paid = record { low = omega (arith, g.paid.low, h.low, w.paid.low); high = w.paid.high; tokens = omega (arith, g.paid.tokens, h.low, w.paid.tokens); errors = omega (arith, g.paid.errors, h.low, w.paid.errors) };
+    tokens-deep x w = record {
+      is = g.goes (Err x) t₁ e₁ (fuelled (λ k. Is (tokens k s n p) t t₁ e e₁ (Err x)) (3 * (length s - p) + 3)
+          (λ j l. rw (sym (is-kind 0) ∙ ne_eqb v 0 z, ← h.is)
+          (is_stop (token j s n a) (λ i. tokens j s n i) t t₁ e e₁ x (w.is j (omega (arith, h.low, h.high))))));
+      paid = tt;
+      out = w.out ∙ g.out;
+      err = w.err ∙ g.err;
     }
 
 -- one token, of a kind
-module _ (s : List ℕ) (n : ℕ) (st r : State) (d d' x x' : List ℕ) (t : ℕ) (e : t ≡ kind (byte s st.at)) where
-  token-by : ((j : ℕ) → 3 * (length s - st.at) + 2 ≤ j → Is (token (suc j) s n st.at) st.tokens st.errors d d' x x' r)
-      → (k : ℕ) → 3 * (length s - st.at) + 2 < k → Is (token k s n st.at) st.tokens st.errors d d' x x' r
-  token-by f = fuelled (λ k. Is (token k s n st.at) st.tokens st.errors d d' x x' r) (3 * (length s - st.at) + 2) f
+module _ (s : List ℕ) (n at v : ℕ) (t t' e e' : Room) (y : v ≡ kind (byte s at)) where
+  token-by : (r : Result ℕ TooDeep) → ((j : ℕ) → 3 * (length s - at) + 2 ≤ j → Is (token (suc j) s n at) t t' e e' r) → (k : ℕ) → 3 * (length s - at) + 2 < k → Is (token k s n at) t t' e e' r
+  token-by r f = fuelled (λ k. Is (token k s n at) t t' e e' r) (3 * (length s - at) + 2) f
 
-  pub token-str : t ≡ 6 → Lexes (λ k. str k s n st.at) (3 * (length s - st.at) + 1) s 1 0 st d d' x x' r → Lexes (λ k. token k s n st.at) (3 * (length s - st.at) + 2) s 1 0 st d d' x x' r
+  pub token-str : (r : Result ℕ TooDeep) → v ≡ 6 → Lexes (λ k. str k s n at) (3 * (length s - at) + 1) s 1 0 at t t' e e' r → Lexes (λ k. token k s n at) (3 * (length s - at) + 2) s 1 0 at t t' e e' r
   unfolding token
-  token-str h w = record { is = token-by (λ j l. rw (sym e ∙ h) (w.is j (omega arith))); paid = w.paid }
+  token-str r h w = record { is = token-by r (λ j l. rw (sym y ∙ h) (w.is j (omega arith))); paid = w.paid; out = w.out; err = w.err }
 
-  pub token_block : t ≡ 7 → Lexes (λ k. block k s n st.at) (3 * (length s - st.at) + 1) s 1 0 st d d' x x' r → Lexes (λ k. token k s n st.at) (3 * (length s - st.at) + 2) s 1 0 st d d' x x' r
+  pub token_block : (r : Result ℕ TooDeep) → v ≡ 7 → Lexes (λ k. block k s n at) (3 * (length s - at) + 1) s 1 0 at t t' e e' r → Lexes (λ k. token k s n at) (3 * (length s - at) + 2) s 1 0 at t t' e e' r
   unfolding token
-  token_block h w = record { is = token-by (λ j l. rw (sym e ∙ h) (w.is j (omega arith))); paid = w.paid }
+  token_block r h w = record { is = token-by r (λ j l. rw (sym y ∙ h) (w.is j (omega arith))); paid = w.paid; out = w.out; err = w.err }
 
-  pub token-leaf : (t ≡ 6 → ⊥) → (t ≡ 7 → ⊥) → Reads (leaf_at t s st.at) s 1 0 st d d' x x' r → Lexes (λ k. token k s n st.at) (3 * (length s - st.at) + 2) s 1 0 st d d' x x' r
+  pub token-leaf : (r : ℕ) → (v ≡ 6 → ⊥) → (v ≡ 7 → ⊥) → Reads (leaf_at v s at) s 1 0 at t t' e e' r → Lexes (λ k. token k s n at) (3 * (length s - at) + 2) s 1 0 at t t' e e' (Ok r)
   unfolding token
-  token-leaf h k w = record { is = token-by (λ j l. rw (← e, ne_eqb t 6 h, ne_eqb t 7 k) w.is); paid = w.paid }
+  token-leaf r h k w = record { is = token-by (Ok r) (λ j l. rw (← y, ne_eqb v 6 h, ne_eqb v 7 k) w.is); paid = w.paid; out = w.out; err = w.err }
 
 -- an escape
-module _ (s : List ℕ) (n : ℕ) (st r : State) (d d' x x' : List ℕ) (b : ℕ) (g : Byte s st.at b) where
-  escape-by : ((j : ℕ) → 3 * (length s - st.at) + 2 ≤ j → Is (escape (suc j) s n st.at) st.tokens st.errors d d' x x' r)
-      → (k : ℕ) → 3 * (length s - st.at) + 2 < k → Is (escape k s n st.at) st.tokens st.errors d d' x x' r
-  escape-by f = fuelled (λ k. Is (escape k s n st.at) st.tokens st.errors d d' x x' r) (3 * (length s - st.at) + 2) f
+module _ (s : List ℕ) (n at b : ℕ) (t t' e e' : Room) (g : Byte s at b) where
+  escape-by : (r : Result ℕ TooDeep) → ((j : ℕ) → 3 * (length s - at) + 2 ≤ j → Is (escape (suc j) s n at) t t' e e' r) → (k : ℕ) → 3 * (length s - at) + 2 < k → Is (escape k s n at) t t' e e' r
+  escape-by r f = fuelled (λ k. Is (escape k s n at) t t' e e' r) (3 * (length s - at) + 2) f
 
-  pub escape-block : b ≡ 0x28 → Lexes (λ k. block k s n st.at) (3 * (length s - st.at) + 1) s 1 0 st d d' x x' r → Lexes (λ k. escape k s n st.at) (3 * (length s - st.at) + 2) s 0 10 st d d' x x' r
-  unfolding escape
-  escape-block h w = record {
-    is = escape-by (λ j l. rw (hit s st.at b 0x28 g h) (w.is j (omega arith)));
-    paid = record { low = omega (arith, w.paid.low); high = w.paid.high; tokens = w.paid.tokens; errors = omega (arith, w.paid.errors) };
-  }
+  later : (r : Result ℕ TooDeep) → IfOk r (λ p. Paid s 1 0 at t t' e e' p) → IfOk r (λ p. Paid s 0 10 at t t' e e' p)
+  later (Ok p) w = record { low = omega (arith, w.low); high = w.high; tokens = w.tokens; errors = omega (arith, w.errors) }
+  later (Err x) w = w
 
-  pub escape-simple : (b ≡ 0x28 → ⊥) → Reads (simple s st.at) s 0 10 st d d' x x' r → Lexes (λ k. escape k s n st.at) (3 * (length s - st.at) + 2) s 0 10 st d d' x x' r
+  pub escape-block : (r : Result ℕ TooDeep) → b ≡ 0x28 → Lexes (λ k. block k s n at) (3 * (length s - at) + 1) s 1 0 at t t' e e' r → Lexes (λ k. escape k s n at) (3 * (length s - at) + 2) s 0 10 at t t' e e' r
   unfolding escape
-  escape-simple h w = record { is = escape-by (λ j l. rw (miss s st.at b 0x28 g h) w.is); paid = w.paid }
+  escape-block r h w = record { is = escape-by r (λ j l. rw (hit s at b 0x28 g h) (w.is j (omega arith))); paid = later r w.paid; out = w.out; err = w.err }
+
+  pub escape-simple : (r : ℕ) → (b ≡ 0x28 → ⊥) → Reads (simple s at) s 0 10 at t t' e e' r → Lexes (λ k. escape k s n at) (3 * (length s - at) + 2) s 0 10 at t t' e e' (Ok r)
+  unfolding escape
+  escape-simple r h w = record { is = escape-by (Ok r) (λ j l. rw (miss s at b 0x28 g h) w.is); paid = w.paid; out = w.out; err = w.err }
 
 -- a block
-module _ (s : List ℕ) (n : ℕ) (st : State) (d x : List ℕ) (a : Ready s st) (l : st.at < length s) where
-  pub block-deep : n ≡ 0 → Lexes (λ k. block k s n st.at) (3 * (length s - st.at) + 1) s 1 0 st d d x x (refused st)
+module _ (s : List ℕ) (n at : ℕ) (t e : Room) where
+  pub block-deep : n ≡ 0 → Lexes (λ k. block k s n at) (3 * (length s - at) + 1) s 1 0 at t t e e (Err (record { place = at }))
   unfolding block
   block-deep z = record {
-    is = fuelled (λ k. Is (block k s n st.at) st.tokens st.errors d d x x (refused st)) (3 * (length s - st.at) + 1) (λ j m. rw z (record { says = omega arith }));
-    paid = record { low = omega arith; high = omega arith; tokens = omega arith; errors = omega arith };
+    is = fuelled (λ k. Is (block k s n at) t t e e (Err (record { place = at }))) (3 * (length s - at) + 1) (λ j m. rw z (record { says = refl }));
+    paid = tt;
+    out = refl;
+    err = refl;
   }
 
-  module _ (z : n ≡ 0 → ⊥) (p : State) (d₁ x₁ : List ℕ) (w : Lexes (λ k. tokens k s (n - 1) (st.at + 1)) (3 * (length s - (st.at + 1)) + 3) s 0 0 (inner st) d d₁ x x₁ p) where
-    pub block-stop : (p.deep ≡ 0 → ⊥) → Lexes (λ k. block k s n st.at) (3 * (length s - st.at) + 1) s 1 0 st d d₁ x x₁ p
+  module _ (l : at < length s) (z : n ≡ 0 → ⊥) (t₁ e₁ : Room) where
+    pub block-stop : (x : TooDeep) → Lexes (λ k. tokens k s (n - 1) (at + 1)) (3 * (length s - (at + 1)) + 3) s 0 0 (at + 1) (left t) t₁ e e₁ (Err x)
+        → Lexes (λ k. block k s n at) (3 * (length s - at) + 1) s 1 0 at t t₁ e e₁ (Err x)
     unfolding block
-    block-stop y = record {
-      is = fuelled (λ k. Is (block k s n st.at) st.tokens st.errors d d₁ x x₁ p) (3 * (length s - st.at) + 1)
+    block-stop x w = record {
+      is = fuelled (λ k. Is (block k s n at) t t₁ e e₁ (Err x)) (3 * (length s - at) + 1)
           (λ j m. rw (ne_eqb n 0 z)
-          (is-enclose-stop 0x07 st.at (and_then (tokens j s (n - 1) (st.at + 1)) (λ b. close (byte s st.at) s (space s b))) (st.tokens + 7) st.tokens st.errors st.errors d d d₁ x x x₁ p
-          (is_stop (tokens j s (n - 1) (st.at + 1)) (λ b. close (byte s st.at) s (space s b)) (st.tokens + 7) st.errors d d₁ x x₁ p (w.is j (omega arith)) y) y));
-      paid = record { low = omega (arith, w.paid.low); high = w.paid.high; tokens = omega (arith, w.paid.tokens); errors = omega (arith, w.paid.errors) };
+          (is-enclose-stop 0x07 at (and_then (tokens j s (n - 1) (at + 1)) (λ b. close (byte s at) s (space s b))) t (left t) t₁ e e₁ x
+          (is_stop (tokens j s (n - 1) (at + 1)) (λ b. close (byte s at) s (space s b)) (left t) t₁ e e₁ x (w.is j (omega arith)))));
+      paid = tt;
+      out = w.out;
+      err = w.err;
     }
 
-    pub block-done : (i b : ℕ) (q r : State) (d₂ d₃ x₂ : List ℕ) → p.deep ≡ 0 → Reaches (space s p.at) s p.at i → Byte s st.at b
-        → Reads (close b s i) s 0 10 (moved p i) d₁ d₂ x₁ x₂ q × (q.deep ≡ 0) → Encloses 0x07 st q d₂ d₃ r
-        → Lexes (λ k. block k s n st.at) (3 * (length s - st.at) + 1) s 1 0 st d d₃ x x₂ r
+    pub block-done : (p i b r : ℕ) (t₂ t₃ e₂ : Room) → Lexes (λ k. tokens k s (n - 1) (at + 1)) (3 * (length s - (at + 1)) + 3) s 0 0 (at + 1) (left t) t₁ e e₁ (Ok p)
+        → Reaches (space s p) s p i → Byte s at b → Reads (close b s i) s 0 10 i t₁ t₂ e₁ e₂ r → Encloses 0x07 t.next at (r - at) t₂ t₃
+        → Lexes (λ k. block k s n at) (3 * (length s - at) + 1) s 1 0 at t t₃ e e₂ (Ok r)
     unfolding block
-    block-done i b q r d₂ d₃ x₂ y h g c e = record {
-      is = fuelled (λ k. Is (block k s n st.at) st.tokens st.errors d d₃ x x₂ r) (3 * (length s - st.at) + 1)
+    block-done p i b r t₂ t₃ e₂ w h g c x = record {
+      is = fuelled (λ k. Is (block k s n at) t t₃ e e₂ (Ok r)) (3 * (length s - at) + 1)
           (λ j m. rw (ne_eqb n 0 z)
-          (is-enclose 0x07 (and_then (tokens j s (n - 1) (st.at + 1)) (λ b. close (byte s st.at) s (space s b))) st q r st.errors d d₂ d₃ x x₂
-          (is-then (tokens j s (n - 1) (st.at + 1)) (λ b. close (byte s st.at) s (space s b)) (st.tokens + 7) st.errors d d₁ d₂ x x₁ x₂ p q (w.is j (omega arith)) y
-          (rw (← h.is, ← g.is) c.0.is))
-          c.1 e));
+          (is-enclose 0x07 at (and_then (tokens j s (n - 1) (at + 1)) (λ b. close (byte s at) s (space s b))) t t₂ t₃ e e₂ r
+          (is-then (tokens j s (n - 1) (at + 1)) (λ b. close (byte s at) s (space s b)) (left t) t₁ t₂ e e₁ e₂ p (Ok r) (w.is j (omega arith))
+          (rw (← h.is, ← g.is) c.is))
+          x));
       paid = record {
-        low = omega (arith, w.paid.low, h.low, c.0.paid.low, e.at);
-        high = omega (arith, c.0.paid.high, e.at);
-        tokens = omega (arith, w.paid.tokens, h.low, c.0.paid.tokens, e.at, e.tokens);
-        errors = omega (arith, w.paid.errors, h.low, c.0.paid.errors, e.at, e.errors);
+        low = omega (arith, w.paid.low, h.low, c.paid.low);
+        high = c.paid.high;
+        tokens = omega (arith, w.paid.tokens, h.low, c.paid.tokens, x.next);
+        errors = omega (arith, w.paid.errors, h.low, c.paid.errors);
       };
+      out = x.same ∙ c.out ∙ w.out;
+      err = c.err ∙ w.err;
     }
 
 -- a string
-module _ (s : List ℕ) (n : ℕ) (st : State) (d x : List ℕ) (a : Ready s st) (l : st.at < length s) where
-  pub str-deep : n ≡ 0 → Lexes (λ k. str k s n st.at) (3 * (length s - st.at) + 1) s 1 0 st d d x x (refused st)
+module _ (s : List ℕ) (n at : ℕ) (t e : Room) where
+  pub str-deep : n ≡ 0 → Lexes (λ k. str k s n at) (3 * (length s - at) + 1) s 1 0 at t t e e (Err (record { place = at }))
   unfolding str
   str-deep z = record {
-    is = fuelled (λ k. Is (str k s n st.at) st.tokens st.errors d d x x (refused st)) (3 * (length s - st.at) + 1) (λ j m. rw z (record { says = omega arith }));
-    paid = record { low = omega arith; high = omega arith; tokens = omega arith; errors = omega arith };
+    is = fuelled (λ k. Is (str k s n at) t t e e (Err (record { place = at }))) (3 * (length s - at) + 1) (λ j m. rw z (record { says = refl }));
+    paid = tt;
+    out = refl;
+    err = refl;
   }
 
   -- in a turn of the loop: a text part to q, where a byte b stands
-  module _ (z : n ≡ 0 → ⊥) (p : State) (d₁ x₁ : List ℕ) (g : Going (λ k i. parts k s (n - 1) i) 1 s (inner st) p d d₁ x x₁)
-      (q : State) (d₂ : List ℕ) (w : Texts s p d₁ d₂ q) (b : ℕ) (i : Byte s q.at b) where
+  module _ (l : at < length s) (z : n ≡ 0 → ⊥) (p : ℕ) (t₁ e₁ : Room) (g : Going (λ k i. parts k s (n - 1) i) 1 s (at + 1) p (left t) t₁ e e₁)
+      (q : ℕ) (t₂ : Room) (w : Texts s p t₁ t₂ q) (b : ℕ) (i : Byte s q b) where
     -- the text part, and then u
-    part : (u : ℕ → Read) (d' x' : List ℕ) (r : State) → ((j : ℕ) → 3 * (length s - p.at) + 1 ≤ j → Is (u j) q.tokens q.errors d₂ d' x₁ x' r)
-        → ((j : ℕ) → cond (eqb (byte s q.at) 0x5C) (and_then (escape j s (n - 1) (q.at + 1)) (λ c. parts j s (n - 1) c)) (quote s q.at) ≡ u j)
-        → (k : ℕ) → 3 * (length s - p.at) + 1 < k → Is (parts k s (n - 1) p.at) p.tokens p.errors d₁ d' x₁ x' r
+    part : (u : ℕ → Read) (t' e' : Room) (r : Result ℕ TooDeep) → ((j : ℕ) → 3 * (length s - p) + 1 ≤ j → Is (u j) t₂ t' e₁ e' r)
+        → ((j : ℕ) → cond (eqb (byte s q) 0x5C) (and_then (escape j s (n - 1) (q + 1)) (λ c. parts j s (n - 1) c)) (quote s q) ≡ u j)
+        → (k : ℕ) → 3 * (length s - p) + 1 < k → Is (parts k s (n - 1) p) t₁ t' e₁ e' r
     unfolding parts errors_bytes
-    part u d' x' r f e = fuelled (λ k. Is (parts k s (n - 1) p.at) p.tokens p.errors d₁ d' x₁ x' r) (3 * (length s - p.at) + 1)
-        (λ j m. rw (← w.is)
-        (is-after (text p.at q.at) [] _ p.tokens q.tokens p.errors q.errors d₁ d₂ d' x₁ x₁ x' r w.put (rw w.errors (put-none x₁ p.errors)) (rw (e j) (f j m))))
+    part u t' e' r f y = fuelled (λ k. Is (parts k s (n - 1) p) t₁ t' e₁ e' r) (3 * (length s - p) + 1)
+        (λ j m. rw (← w.is) (is-after (text p q) [] _ t₁ t₂ t' e₁ e₁ e' r w.put (put-none e₁) (rw (y j) (f j m))))
 
-    module _ (h : b ≡ 0x5C) (r : State) (d₃ x₃ : List ℕ)
-        (v : Lexes (λ k. escape k s (n - 1) (q.at + 1)) (3 * (length s - (q.at + 1)) + 2) s 0 10 (moved q (q.at + 1)) d₂ d₃ x₁ x₃ r) where
-      turn : (u : State) (d' x' : List ℕ) → ((j : ℕ) → 3 * (length s - p.at) + 1 ≤ j → Is (and_then (escape j s (n - 1) (q.at + 1)) (λ c. parts j s (n - 1) c)) q.tokens q.errors d₂ d' x₁ x' u)
-          → (k : ℕ) → 3 * (length s - p.at) + 1 < k → Is (parts k s (n - 1) p.at) p.tokens p.errors d₁ d' x₁ x' u
-      turn u d' x' f = part (λ j. and_then (escape j s (n - 1) (q.at + 1)) (λ c. parts j s (n - 1) c)) d' x' u f (λ j. rw (hit s q.at b 0x5C i h))
+    module _ (h : b ≡ 0x5C) (t₃ e₃ : Room) where
+      turn : (u : Result ℕ TooDeep) (t' e' : Room) → ((j : ℕ) → 3 * (length s - p) + 1 ≤ j → Is (and_then (escape j s (n - 1) (q + 1)) (λ c. parts j s (n - 1) c)) t₂ t' e₁ e' u)
+          → (k : ℕ) → 3 * (length s - p) + 1 < k → Is (parts k s (n - 1) p) t₁ t' e₁ e' u
+      turn u t' e' f = part (λ j. and_then (escape j s (n - 1) (q + 1)) (λ c. parts j s (n - 1) c)) t' e' u f (λ j. rw (hit s q b 0x5C i h))
 
-      pub str-more : r.deep ≡ 0 → length d₃ ≡ length d₁ → length x₃ ≡ length x₁ → Going (λ k i. parts k s (n - 1) i) 1 s (inner st) r d d₃ x x₃
-      str-more y m o = record {
-        goes = λ u d' x' f. g.goes u d' x' (turn u d' x'
-            (λ j c. is-then (escape j s (n - 1) (q.at + 1)) (λ c. parts j s (n - 1) c) q.tokens q.errors d₂ d₃ d' x₁ x₃ x' r u (v.is j (omega (arith, w.low, w.high))) y
+      pub str-more : (r : ℕ) → Lexes (λ k. escape k s (n - 1) (q + 1)) (3 * (length s - (q + 1)) + 2) s 0 10 (q + 1) t₂ t₃ e₁ e₃ (Ok r)
+          → Going (λ k i. parts k s (n - 1) i) 1 s (at + 1) r (left t) t₃ e e₃
+      str-more r v = record {
+        goes = λ u t' e' f. g.goes u t' e' (turn u t' e'
+            (λ j c. is-then (escape j s (n - 1) (q + 1)) (λ c. parts j s (n - 1) c) t₂ t₃ t' e₁ e₃ e' r u (v.is j (omega (arith, w.low, w.high)))
             (f j (omega (arith, w.low, w.high, v.paid.low, v.paid.high)))));
         paid = record {
           low = omega (arith, g.paid.low, w.low, v.paid.low);
           high = v.paid.high;
           tokens = omega (arith, g.paid.tokens, w.tokens, v.paid.tokens);
-          errors = omega (arith, g.paid.errors, w.low, w.errors, v.paid.errors);
+          errors = omega (arith, g.paid.errors, w.low, v.paid.errors);
         };
         ready = record {
           place = v.paid.high;
           tokens = omega (arith, g.ready.tokens, w.tokens, v.paid.tokens);
-          errors = omega (arith, g.ready.errors, w.low, w.errors, v.paid.errors);
+          errors = omega (arith, g.ready.errors, w.low, v.paid.errors);
         };
-        out = m ∙ g.out;
-        err = o ∙ g.err;
+        out = v.out ∙ w.put.same ∙ g.out;
+        err = v.err ∙ g.err;
       }
 
-      pub str-stop : (r.deep ≡ 0 → ⊥) → Lexes (λ k. str k s n st.at) (3 * (length s - st.at) + 1) s 1 0 st d d₃ x x₃ r
+      pub str-stop : (x : TooDeep) → Lexes (λ k. escape k s (n - 1) (q + 1)) (3 * (length s - (q + 1)) + 2) s 0 10 (q + 1) t₂ t₃ e₁ e₃ (Err x)
+          → Lexes (λ k. str k s n at) (3 * (length s - at) + 1) s 1 0 at t t₃ e e₃ (Err x)
       unfolding str
-      str-stop y = record {
-        is = fuelled (λ k. Is (str k s n st.at) st.tokens st.errors d d₃ x x₃ r) (3 * (length s - st.at) + 1)
+      str-stop x v = record {
+        is = fuelled (λ k. Is (str k s n at) t t₃ e e₃ (Err x)) (3 * (length s - at) + 1)
             (λ j m. rw (ne_eqb n 0 z)
-            (is-enclose-stop 0x06 st.at (parts j s (n - 1) (st.at + 1)) (st.tokens + 7) st.tokens st.errors st.errors d d d₃ x x x₃ r
-            (g.goes r d₃ x₃ (turn r d₃ x₃
-            (λ i c. is_stop (escape i s (n - 1) (q.at + 1)) (λ c. parts i s (n - 1) c) q.tokens q.errors d₂ d₃ x₁ x₃ r (v.is i (omega (arith, w.low, w.high))) y))
-            j (omega arith)) y));
-        paid = record {
-          low = omega (arith, g.paid.low, w.low, v.paid.low);
-          high = v.paid.high;
-          tokens = omega (arith, g.paid.tokens, w.tokens, v.paid.tokens);
-          errors = omega (arith, g.paid.errors, w.low, w.errors, v.paid.errors);
-        };
+            (is-enclose-stop 0x06 at (parts j s (n - 1) (at + 1)) t (left t) t₃ e e₃ x
+            (g.goes (Err x) t₃ e₃ (turn (Err x) t₃ e₃
+            (λ k c. is_stop (escape k s (n - 1) (q + 1)) (λ c. parts k s (n - 1) c) t₂ t₃ e₁ e₃ x (v.is k (omega (arith, w.low, i.within, h)))))
+            j (omega arith))));
+        paid = tt;
+        out = v.out ∙ w.put.same ∙ g.out;
+        err = v.err ∙ g.err;
       }
 
-    pub str-done : (b ≡ 0x5C → ⊥) → (u r : State) (x₃ d₃ : List ℕ) → Quotes s q x₁ x₃ u → Encloses 0x06 st u d₂ d₃ r → Lexes (λ k. str k s n st.at) (3 * (length s - st.at) + 1) s 1 0 st d d₃ x x₃ r
+    pub str-done : (b ≡ 0x5C → ⊥) → (r : ℕ) (e₃ t₃ : Room) → Quotes s q e₁ e₃ r → Encloses 0x06 t.next at (r - at) t₂ t₃ → Lexes (λ k. str k s n at) (3 * (length s - at) + 1) s 1 0 at t t₃ e e₃ (Ok r)
     unfolding str
-    str-done h u r x₃ d₃ v e = record {
-      is = fuelled (λ k. Is (str k s n st.at) st.tokens st.errors d d₃ x x₃ r) (3 * (length s - st.at) + 1)
+    str-done h r e₃ t₃ v x = record {
+      is = fuelled (λ k. Is (str k s n at) t t₃ e e₃ (Ok r)) (3 * (length s - at) + 1)
           (λ j m. rw (ne_eqb n 0 z)
-          (is-enclose 0x06 (parts j s (n - 1) (st.at + 1)) st u r st.errors d d₂ d₃ x x₃
-          (g.goes u d₂ x₃ (part (λ k. quote s q.at) d₂ x₃ u (λ k c. v.is d₂) (λ k. rw (miss s q.at b 0x5C i h))) j (omega arith))
-          v.fine e));
+          (is-enclose 0x06 at (parts j s (n - 1) (at + 1)) t t₂ t₃ e e₃ r
+          (g.goes (Ok r) t₂ e₃ (part (λ k. quote s q) t₂ e₃ (Ok r) (λ k c. v.is t₂) (λ k. rw (miss s q b 0x5C i h))) j (omega arith))
+          x));
       paid = record {
-        low = omega (arith, g.paid.low, w.low, v.paid.low, e.at);
-        high = omega (arith, v.paid.high, e.at);
-        tokens = omega (arith, g.paid.tokens, w.tokens, v.paid.tokens, e.at, e.tokens);
-        errors = omega (arith, g.paid.errors, w.low, w.errors, v.paid.errors, e.at, e.errors);
+        low = omega (arith, g.paid.low, w.low, v.low);
+        high = v.high;
+        tokens = omega (arith, g.paid.tokens, w.tokens, v.low, x.next);
+        errors = omega (arith, g.paid.errors, w.low, v.errors);
       };
+      out = x.same ∙ w.put.same ∙ g.out;
+      err = v.err ∙ g.err;
     }
 
 -- a byte that starts a token is no 0

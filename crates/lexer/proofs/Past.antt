@@ -1,16 +1,21 @@
 -- How far a run goes, step by step. Assumes nothing.
-use mathlib.Core.Path.{◌≡◌, refl, sym, ◌∙◌}
-use mathlib.Core.Bool.{Bool, true, false, cond}
+use mathlib.Core.Path.{◌≡◌, refl, sym, ap, ◌∙◌}
+use mathlib.Core.Bool.{Bool, true, false, cond, ◌&&◌}
 use mathlib.Core.List.{List, [], ◌∷◌}
-use Prim.Native.Nat.{ℕ, suc, ◌+◌, ◌≤◌, ◌<◌}
+use Prim.Native.Nat.{ℕ, zero, suc, ◌+◌, ◌-◌, ◌≤◌, ◌<◌}
+use native.Mathlib.Nat.{add-zero, add-suc}
 use native.Mathlib.Numerals.{add-one}
 use native.Mathlib.Omega.{arith}
-use lib.ListN.{length, drop, length-drop, drop_of_length-le}
+use lib.ListN.{length, take, drop, get_or, length-drop, drop_of_length-le}
 use lib.Seq.{drop-cons}
 use lib.Dec.{ltb}
 use borrow.Author.Tests.{ltb-true, ltb-false}
+use Rattle.std.specs.List.{list_all}
+use Rattle.std.proofs.lemmas.List.{get_or-drop, drop-drop}
+use Rattle.std.proofs.lemmas.List.Folds.{list_all_more}
 use Rattle.lexer.specs.Scan.{byte, run, past}
 use Rattle.lexer.specs.Meets.{Reaches, Going}
+use Rattle.lexer.proofs.Every.{both_left, both_right}
 
 module _ (p : ℕ → Bool) (s : List ℕ) where
   pub past_more : (i : ℕ) → i < length s → p (byte s i) ≡ true → past p s i ≡ past p s (i + 1)
@@ -61,3 +66,30 @@ module _ (p : ℕ → Bool) (s : List ℕ) where
 
   pub all : (at i : ℕ) → Going p s at i → length s ≤ i → Reaches (past p s at) s at i
   all at i g h = record { is = sym (past_end i h) ∙ g.is; low = g.low; high = g.high }
+
+  -- a run from a place on the way ends where that from the start ends
+  pub onward : (at i r : ℕ) → Going p s at i → Reaches (past p s i) s i r → Reaches (past p s at) s at r
+  onward at i r g w = record { is = w.is ∙ g.is; low = omega (arith, g.low, w.low); high = w.high }
+
+  -- a block of the class is passed whole
+  pub block : (at i n : ℕ) → Going p s at i → i + n ≤ length s → list_all p (take n (drop i s)) ≡ true → Going p s at (i + n)
+  block at i zero g h e = rw add-zero g
+  block at i (suc n) g h e =
+      let xs = drop i s in
+      let m : list_all p (take (n + 1) xs) ≡ (list_all p (take n xs) && p (get_or xs n 0)) = list_all_more p xs n 0 (omega (arith, length-drop i s)) in
+      let f : (list_all p (take n xs) && p (get_or xs n 0)) ≡ true = sym m ∙ rw add-one e in
+      let b : p (byte s (i + n)) ≡ true = ap p (sym (get_or-drop i s n 0)) ∙ both_right (list_all p (take n xs)) (p (get_or xs n 0)) f in
+      rw (add-suc, ← add-one) (more at (i + n) (block at i n g (omega arith) (both_left _ _ f)) (omega arith) b)
+
+  -- what is left of s behind a block at its head
+  pub tail-going : (at n : ℕ) (rest front tail : List ℕ) → length rest ≤ length s → length tail + n ≡ length rest → rest ≡ drop (length s - length rest) s → front ≡ take n rest
+      → Going p s at (length s - length rest) → list_all p front ≡ true → Going p s at (length s - length tail)
+  tail-going at n rest front tail short l is f g e =
+      let b : length s - length tail ≡ length s - length rest + n = omega arith in
+      rw b (block at (length s - length rest) n g (omega arith) (ap (λ (xs : List ℕ). list_all p (take n xs)) (sym is) ∙ ap (list_all p) (sym f) ∙ e))
+
+pub tail-is : (s : List ℕ) (n : ℕ) (rest tail : List ℕ) → length rest ≤ length s → length tail + n ≡ length rest → rest ≡ drop (length s - length rest) s → tail ≡ drop n rest
+    → tail ≡ drop (length s - length tail) s
+tail-is s n rest tail short l is t =
+    let b : length s - length tail ≡ length s - length rest + n = omega arith in
+    rw b (t ∙ ap (drop n) is ∙ drop-drop n (length s - length rest) s)

@@ -9,9 +9,9 @@ use lib.Dec.{eqb}
 use borrow.Author.Tests.{eq-eqb, ne_eqb}
 use Rattle.lexer.specs.Token.{Expect}
 use Rattle.lexer.specs.Scan.{byte, optional, Scan, scan, expected}
-use Rattle.lexer.specs.Listing.{error_tag, opener, errors_bytes}
+use Rattle.lexer.specs.Listing.{errors_bytes}
 use Rattle.lexer.specs.Meets.{Byte, Reaches, Erred, Scans}
-use Rattle.lexer.specs.declared.scan.Scanned.{Scanned}
+use Rattle.lexer.specs.declared.put.Room.{Room}
 use Rattle.lexer.proofs.Puts.{put-none}
 
 -- a byte of a class that 0 is not in is no 0
@@ -40,29 +40,28 @@ module _ (s : List ℕ) (at b one other : ℕ) (g : Byte s at b) where
   unfolding optional
   neither l n m = simp (miss s at b one g n, miss s at b other g m) (record { is = refl; low = omega arith; high = l })
 
-module _ (s : List ℕ) (at e : ℕ) where
+module _ (s : List ℕ) (at : ℕ) (e : Room) where
   -- what is read with no error
-  pub clean : (a r slack : ℕ) (x : List ℕ) → Reaches a s at r → Scans (scan a) s at e slack x x (record { at = r; errors = e })
+  pub clean : (a r slack : ℕ) → Reaches a s at r → Scans (scan a) s at slack e e r
   unfolding errors_bytes
-  clean a r slack x h = record { is = h.is; put = put-none x e; low = h.low; high = h.high; paid = omega (arith, h.low) }
+  clean a r slack h = record { is = h.is; put = put-none e; low = h.low; high = h.high; paid = omega (arith, h.low) }
 
   -- what was expected is there
-  pub there : (w : Expect) (to r : ℕ) (x : List ℕ) → r ≡ to → at < r → r ≤ length s → Scans (expected w at to) s at e 10 x x (record { at = r; errors = e })
+  pub there : (w : Expect) (to r : ℕ) → r ≡ to → at < r → r ≤ length s → Scans (expected w at to) s at 10 e e r
   unfolding expected errors_bytes
-  there w to r x i l h = record { is = i; put = simp (ne_eqb to at (λ z. omega arith)) (put-none x e); low = omega arith; high = h; paid = omega arith }
+  there w to r i l h = record { is = i; put = simp (ne_eqb to at (λ z. omega arith)) (put-none e); low = omega arith; high = h; paid = omega arith }
 
   -- or it is not
-  pub missed : (w : Expect) (tag to r : ℕ) (x x' : List ℕ) → error_tag w ≡ tag → opener w ≡ [] → to ≡ at → at ≤ length s → Erred tag e at x x' r
-      → Scans (expected w at to) s at e 10 x x' (record { at = at; errors = r })
+  pub missed : (w : Expect) (to r : ℕ) (e' : Room) → r ≡ to → to ≡ at → at ≤ length s → Erred w at e e' → Scans (expected w at to) s at 10 e e' r
   unfolding expected
-  missed w tag to r x x' t o i h g = record {
-    is = sym i;
-    put = simp (eq-eqb to at i) (g.put w t o);
+  missed w to r e' i h l g = record {
+    is = i;
+    put = simp (eq-eqb to at h) g.put;
     low = omega arith;
-    high = h;
-    paid = omega (arith, g.size);
+    high = omega arith;
+    paid = omega (arith, g.few);
   }
 
   -- a scan from a later place, whose caller has paid for the way
-  pub from : (q : Scan) (at' slack slack' : ℕ) (x x' : List ℕ) (r : Scanned) → Scans q s at' e slack x x' r → at ≤ at' → slack + 10 * at ≤ slack' + 10 * at' → Scans q s at e slack' x x' r
-  from q at' slack slack' x x' r g h k = record { is = g.is; put = g.put; low = omega (arith, g.low); high = g.high; paid = omega (arith, g.paid) }
+  pub from : (q : Scan) (at' slack slack' : ℕ) (e' : Room) (r : ℕ) → Scans q s at' slack e e' r → at ≤ at' → slack + 10 * at ≤ slack' + 10 * at' → Scans q s at slack' e e' r
+  from q at' slack slack' e' r g h k = record { is = g.is; put = g.put; low = omega (arith, g.low); high = g.high; paid = omega (arith, g.paid) }

@@ -1,24 +1,26 @@
 -- The loops of `space::space`: blanks and comments, and in a comment its lines. Assumes nothing.
-use mathlib.Core.Path.{◌≡◌, refl, sym, ap, ◌∙◌}
+use mathlib.Core.Path.{◌≡◌, refl, sym, ◌∙◌}
 use mathlib.Core.Bool.{Bool, true, false}
 use mathlib.Core.List.{List}
 use Prim.Native.Nat.{ℕ, zero, suc, ◌+◌, ◌-◌, ◌≤◌, ◌<◌, min}
-use native.Mathlib.Nat.{add-zero, add-suc}
-use native.Mathlib.Numerals.{add-one}
 use native.Mathlib.Omega.{arith}
 use lib.ListN.{length}
+use lib.Dec.{eqb, ltb}
+use borrow.Author.Tests.{ltb-true, ltb-false, eqb-true}
 use Rattle.lexer.specs.Scan.{byte, past}
 use Rattle.lexer.specs.Space.{blank, in_line, goes_on, next_line, comment, space}
-use Rattle.lexer.specs.Meets.{Byte, Reaches, Spacing, bare, counts}
-use Rattle.lexer.proofs.Counts.{counts_all}
+use Rattle.lexer.specs.Meets.{Byte, Reaches, Spacing, bare}
+use Rattle.lexer.proofs.Past.{past_more, past_stop, past_end}
 use Rattle.lexer.proofs.Blanks.{blank-space, bare-not}
 use Rattle.lexer.proofs.Skips.{on_some, comment-on, comment-off, space-blank, space-comment, space-stop}
 
--- what is space from here on is space from the start on, in a comment whose first line starts at first, at the start of one of its lines
-pub record Commenting (s : List ℕ) (from first at : ℕ) : Type 0 where
-  pub is : space s (comment (suc (length s)) s at) ≡ space s from
+abbrev pub is_space : ℕ → Bool
+is_space b = eqb b 0x20
+
+-- a line of a comment that starts at from
+pub record Commenting (s : List ℕ) (from at : ℕ) : Type 0 where
+  pub is : comment (suc (length s)) s at ≡ comment (suc (length s)) s from
   pub low : from ≤ at
-  pub moved : first ≤ at
   pub high : at ≤ length s
 
 module _ (s : List ℕ) (from : ℕ) where
@@ -37,14 +39,18 @@ module _ (s : List ℕ) (from : ℕ) where
   pub space-more : (at : ℕ) → Spacing s from at → at < length s → byte s at ≡ 0x20 → Spacing s from (at + 1)
   space-more at g h e = one-space at (byte s at) g (record { is = refl; within = omega arith }) e
 
-  spaces-more : (i n : ℕ) → Spacing s from i → i + n ≤ length s → counts 0x20 s i n ≡ n → Spacing s from (i + n)
-  spaces-more i zero g h e = rw add-zero g
-  spaces-more i (suc n) g h e =
-      let a = counts_all 0x20 s i n e in
-      rw (add-suc, ← add-one) (space-more (i + n) (spaces-more i n g (omega arith) a.0) (omega arith) a.1)
+  -- spaces are white space, however many
+  spaces-past : (m i : ℕ) → length s ≤ i + m → Spacing s from i → Spacing s from (past is_space s i)
+  spaces-past zero i l g = rw (past_end is_space s i (omega arith)) g
+  spaces-past (suc m) i l g = here (ltb i (length s)) refl (eqb (byte s i) 0x20) refl (λ h. spaces-past m (i + 1) (omega arith) h)
+    where
+      here : (x : Bool) → ltb i (length s) ≡ x → (y : Bool) → eqb (byte s i) 0x20 ≡ y → (Spacing s from (i + 1) → Spacing s from (past is_space s (i + 1))) → Spacing s from (past is_space s i)
+      here false k y e f = rw (past_end is_space s i (ltb-false _ _ k)) g
+      here true k false e f = rw (past_stop is_space s i (ltb-true _ _ k) e) g
+      here true k true e f = rw (past_more is_space s i (ltb-true _ _ k) e) (f (space-more i g (ltb-true _ _ k) (eqb-true _ _ e)))
 
-  pub spaces-block : (i n r : ℕ) → Spacing s from i → i + n ≤ length s → r ≡ counts 0x20 s i n → r ≡ n → Spacing s from (i + n)
-  spaces-block i n r g h e z = spaces-more i n g h (sym e ∙ z)
+  pub spaces-passed : (r : ℕ) → from ≤ length s → Reaches (past is_space s from) s from r → Spacing s from r
+  spaces-passed r h w = rw w.is (spaces-past (length s) from (omega arith) (begin h))
 
   pub on : (i at : ℕ) → Spacing s from i → Spacing s i at → Spacing s from at
   on i at g h = record { is = h.is ∙ g.is; low = omega (arith, g.low, h.low); high = h.high }
@@ -62,12 +68,13 @@ module _ (s : List ℕ) (from : ℕ) where
     high = b.1;
   }
 
-  pub one-comment : (at n b : ℕ) → Spacing s from at → (n ≡ blank s at) × (at + n ≤ length s) → n ≤ 0 → Byte s at b → b ≡ 0x23 → Commenting s from (at + 1) (at + 1)
-  one-comment at n b g k z i h = record {
-    is = sym (space-comment s at (omega (arith, k.0)) (sym i.is ∙ h)) ∙ g.is;
-    low = omega (arith, g.low);
-    moved = omega arith;
-    high = omega (arith, i.within);
+  -- a comment, behind its `#`
+  pub one-comment : (at n b r : ℕ) → Spacing s from at → (n ≡ blank s at) × (at + n ≤ length s) → n ≤ 0 → Byte s at b → b ≡ 0x23 → Reaches (comment (suc (length s)) s (at + 1)) s (at + 1) r
+      → Spacing s from r
+  one-comment at n b r g k z i h w = record {
+    is = rw w.is (sym (space-comment s at (omega (arith, k.0)) (sym i.is ∙ h)) ∙ g.is);
+    low = omega (arith, g.low, w.low);
+    high = w.high;
   }
 
   pub no-comment : (at n b : ℕ) → Spacing s from at → (n ≡ blank s at) × (at + n ≤ length s) → n ≤ 0 → Byte s at b → (b ≡ 0x23 → ⊥) → Reaches (space s from) s from at
@@ -77,28 +84,30 @@ module _ (s : List ℕ) (from : ℕ) where
     high = g.high;
   }
 
-  module _ (first at end next : ℕ) (on : Bool) (g : Commenting s from first at) (l : Reaches (past in_line s at) s at end) (o : on ≡ goes_on s at (end - at)) (n : Reaches (min (end + 1) (length s)) s end next) where
+  pub line-first : from ≤ length s → Commenting s from from
+  line-first h = record { is = refl; low = omega arith; high = h }
+
+  module _ (at end next : ℕ) (on : Bool) (g : Commenting s from at) (l : Reaches (past in_line s at) s at end) (o : on ≡ goes_on s at (end - at)) (n : next ≡ min (length s) (end + 1)) where
     goes : goes_on s at (past in_line s at - at) ≡ on
     goes = rw (← l.is) (sym o)
 
     to : next ≡ next_line s at
     unfolding next_line
-    to = rw (← l.is) n.is
+    to = omega (arith, n, l.is)
 
-    pub line_on : on ≡ true → Commenting s from first next
+    pub line_on : on ≡ true → Commenting s from next
     line_on e = record {
-      is = rw to (sym (ap (λ (i : ℕ). space s i) (comment-on s at g.high (goes ∙ e))) ∙ g.is);
-      low = omega (arith, g.low, l.low, n.low);
-      moved = omega (arith, g.moved, l.low, n.low);
-      high = n.high;
+      is = rw to (sym (comment-on s at g.high (goes ∙ e)) ∙ g.is);
+      low = omega (arith, g.low, l.low, l.high, n);
+      high = omega (arith, n);
     }
 
     pub line-moves : on ≡ true → at < next
-    line-moves e = omega (arith, n.is, l.high, on_some s at (end - at) (sym o ∙ e))
+    line-moves e = omega (arith, n, l.high, on_some s at (end - at) (sym o ∙ e))
 
-    pub line-off : on ≡ false → Spacing s from next
+    pub line-off : on ≡ false → Reaches (comment (suc (length s)) s from) s from next
     line-off e = record {
-      is = rw to (sym (ap (λ (i : ℕ). space s i) (comment-off s at (goes ∙ e))) ∙ g.is);
-      low = omega (arith, g.low, l.low, n.low);
-      high = n.high;
+      is = to ∙ sym (comment-off s at (goes ∙ e)) ∙ g.is;
+      low = omega (arith, g.low, l.low, l.high, n);
+      high = omega (arith, n);
     }

@@ -1,5 +1,6 @@
 -- What lexing a source leaves in the two rooms, and what the entry promises.
-use Rattle.std.specs.Prelude.{◌≡◌, List, [], ◌++◌, ℕ, zero, suc, ◌+◌, ◌≤◌, length}
+use Rattle.std.specs.Prelude.{◌≡◌, List, [], ◌++◌, ℕ, ◌+◌, ◌≤◌, length, Result, Ok, Err}
+use Rattle.fields.specs.Room.{overlay}
 use Rattle.fields.specs.declared.Answer.{Answer}
 use Rattle.fields.specs.Outcome.{Outcome, Answers}
 use Rattle.lexer.specs.Read.{Read, read, deep}
@@ -7,13 +8,10 @@ use Rattle.lexer.specs.Listing.{edition, tokens_bytes, errors_bytes}
 use Rattle.lexer.specs.Space.{space}
 use Rattle.lexer.specs.Lex.{rest}
 use Rattle.lexer.specs.Lexing.{lexing}
-use Rattle.lexer.specs.Meets.{Put, Is, Reaches}
-use Rattle.lexer.specs.declared.scan.State.{State}
-
--- 0 where nesting is within what is allowed, else one more than the place of the opener that is too many
-abbrev pub deepness : Read → ℕ
-deepness (read at ts es) = zero
-deepness (deep p) = suc p
+use Rattle.lexer.specs.Meets.{Is, Reaches}
+use Rattle.lexer.specs.declared.put.Room.{Room}
+use Rattle.lexer.specs.declared.scan.TooDeep.{TooDeep}
+use Rattle.lexer.specs.declared.Sizes.{Sizes}
 
 -- the two listings that are due
 abbrev pub tokens_due : Read → List ℕ
@@ -29,22 +27,31 @@ pub record Begun (s : List ℕ) (from : ℕ) : Type 0 where
   pub few : length s ≤ 32768
   pub lead : Reaches (space s 0) s 0 from
 
--- what follows the top tokens, from where the state p stands
-pub record Rests (s : List ℕ) (p : State) (x x' : List ℕ) (r : State) : Type 0 where
-  pub is : (d : List ℕ) → Is (rest s (space s p.at)) p.tokens p.errors d d x x' r
-  pub tokens : r.tokens ≡ p.tokens
-  pub errors : r.errors ≤ p.errors + 5
+-- what follows the top tokens, from a place on
+pub record Rests (s : List ℕ) (at : ℕ) (e e' : Room) : Type 0 where
+  pub is : (t : Room) → Is (rest s (space s at)) t t e e' (Ok (space s at))
+  pub few : e'.next ≤ e.next + 6
+  pub err : e'.bytes.ghost_name ≡ e.bytes.ghost_name
 
--- a source that was read to its end: both listings are in the rooms, as far as these go. The rooms are of no account where nesting is refused
-pub record Listed (q : Read) (d d' x x' : List ℕ) (r : State) : Type 0 where
-  pub nesting : r.deep ≡ deepness q
-  pub tokens : deepness q ≡ 0 → Put d 0 (tokens_due q) d' r.tokens
-  pub errors : deepness q ≡ 0 → Put x 0 (errors_due q) x' r.errors
-  pub few : r.tokens ≤ 1048576
-  pub faults : r.errors ≤ 1048576
+-- a listing that stands at the head of a room, as far as that goes, and how many bytes it takes
+pub record Holds (d bs d' : List ℕ) (n : ℕ) : Type 0 where
+  pub size : n ≡ length bs
+  pub room : d' ≡ overlay d 0 bs
+  pub few : n ≤ 1048576
 
-abbrev pub refused_as : ℕ → ℕ → Answer
-refused_as n at = record { number = n; length = 0; place = at }
+pub record Both (q : Read) (d d' x x' : List ℕ) (r : Sizes) : Type 0 where
+  pub tokens : Holds d (tokens_due q) d' r.tokens
+  pub errors : Holds x (errors_due q) x' r.errors
+
+abbrev pub Lists : Read → List ℕ → List ℕ → List ℕ → List ℕ → Result Sizes TooDeep → Type 0
+Lists (read at ts es) d d' x x' (Ok r) = Both (read at ts es) d d' x x' r
+Lists (read at ts es) d d' x x' (Err f) = ⊥
+Lists (deep p) d d' x x' (Ok r) = ⊥
+Lists (deep p) d d' x x' (Err f) = f.place ≡ p
+
+-- a source that was read to its end: both listings are in the rooms. The rooms are of no account where nesting is refused
+pub record Listed (q : Read) (d d' x x' : List ℕ) (r : Result Sizes TooDeep) : Type 0 where
+  pub lists : Lists q d d' x x' r
 
 -- an answer to what was read from a source
 pub record Told (o : Outcome) (d d' : List ℕ) (r : Answer) : Type 0 where

@@ -1,17 +1,19 @@
 -- What the functions of the crate promise to one another: the value that a definition says, with the bounds that a caller needs.
-use Rattle.std.specs.Prelude.{◌≡◌, Bool, false, cond, not, List, [], ◌∷◌, ℕ, zero, suc, ◌+◌, ◌-◌, ◌*◌, ◌≤◌, ◌<◌, min, length, ltb, eqb}
+use Rattle.std.specs.Prelude.{◌≡◌, Bool, false, cond, not, List, [], ◌∷◌, ℕ, suc, ◌+◌, ◌-◌, ◌*◌, ◌≤◌, ◌<◌, min, length, ltb, eqb, Result, Ok, Err, IfOk}
 use Rattle.text.specs.Space.{white_space}
 use Rattle.fields.specs.Field.{field}
 use Rattle.fields.specs.Room.{overlay}
-use Rattle.lexer.specs.Token.{Tokens, char, Error, Expect, missing}
+use Rattle.lexer.specs.Token.{Tokens, Error, Expect, missing}
 use Rattle.lexer.specs.Scan.{byte, past, Scan}
 use Rattle.lexer.specs.Space.{space}
 use Rattle.lexer.specs.Escape.{hex_digit, hex, hexes}
-use Rattle.lexer.specs.Listing.{pair, error_tag, opener, tokens_bytes, errors_bytes}
-use Rattle.lexer.specs.Read.{Read, read, deep, found, wrong}
+use Rattle.lexer.specs.Listing.{edition, pair, tokens_bytes, errors_bytes}
+use Rattle.lexer.specs.Read.{Read, read, deep}
 use Rattle.lexer.specs.Lex.{text_byte, text, quote}
-use Rattle.lexer.specs.declared.scan.Scanned.{Scanned}
-use Rattle.lexer.specs.declared.scan.State.{State}
+use Rattle.lexer.specs.declared.put.Expected.{Expected}
+use Rattle.lexer.specs.declared.put.Expected.TheVariants.{Digit, Ident, Closer, Escape, Unicode, Any}
+use Rattle.lexer.specs.declared.put.Room.{Room}
+use Rattle.lexer.specs.declared.scan.TooDeep.{TooDeep}
 use Rattle.lexer.specs.declared.escape.Code.{Code}
 
 -- the byte at a place; one that is no 0 stands in the source
@@ -19,14 +21,13 @@ pub record Byte (s : List ℕ) (at r : ℕ) : Type 0 where
   pub is : r ≡ byte s at
   pub within : at + 1 ≤ length s + (1 - r)
 
+-- a closure that tests a byte as p does
+abbrev pub Tests : (ℕ → Bool → Type 0) → (ℕ → Bool) → Type 0
+Tests post p = (b : ℕ) (r : Bool) → post b r → r ≡ p b
+
 -- an ASCII byte that starts neither white space nor a comment
 unfoldable pub bare : ℕ → Bool
 bare b = cond (ltb b 128) (cond (white_space b) false (not (eqb b 0x23))) false
-
--- how many of the n bytes from a place on are x
-unfoldable pub counts : ℕ → List ℕ → ℕ → ℕ → ℕ
-counts x s at zero = 0
-counts x s at (suc n) = counts x s at n + cond (eqb (byte s (at + n)) x) 1 0
 
 -- a place on the way along a run: what passes from there on ends where what passes from the start on ends
 pub record Going (p : ℕ → Bool) (s : List ℕ) (at i : ℕ) : Type 0 where
@@ -46,33 +47,48 @@ pub record Reaches (to : ℕ) (s : List ℕ) (from r : ℕ) : Type 0 where
   pub low : from ≤ r
   pub high : r ≤ length s
 
--- bytes that were put into a room that held d
-pub record Put (d : List ℕ) (o : ℕ) (bs d' : List ℕ) (r : ℕ) : Type 0 where
-  pub next : r ≡ o + length bs
-  pub room : d' ≡ overlay d o bs
+-- bytes that were put into a room
+pub record Put (a : Room) (bs : List ℕ) (b : Room) : Type 0 where
+  pub same : b.bytes.ghost_name ≡ a.bytes.ghost_name
+  pub next : b.next ≡ a.next + length bs
+  pub room : b.bytes.now ≡ overlay a.bytes.now a.next bs
+
+-- a listing that opens in a room that held d
+pub record Opened (d : List ℕ) (b : Room) : Type 0 where
+  pub next : b.next ≡ length edition
+  pub room : b.bytes.now ≡ overlay d 0 edition
 
 -- A place in the source, and an offset that stays small: each byte of the source pays for ten bytes put at the most.
 pub record Within (s : List ℕ) (at o : ℕ) : Type 0 where
   pub place : at ≤ length s
   pub paid : o + 10 * length s ≤ 10 * at + 1048576
 
--- A scan from a place on, whose errors are put from e on. The slack is what its caller has paid for.
-pub record Scans (q : Scan) (s : List ℕ) (at e slack : ℕ) (x x' : List ℕ) (r : Scanned) : Type 0 where
-  pub is : r.at ≡ q.at
-  pub put : Put x e (errors_bytes 2 q.errors) x' r.errors
-  pub low : at ≤ r.at
-  pub high : r.at ≤ length s
-  pub paid : r.errors + 10 * at ≤ e + 10 * r.at + slack
+-- A scan from a place on, with its errors in a room. The slack is what its caller has paid for.
+pub record Scans (q : Scan) (s : List ℕ) (at slack : ℕ) (e e' : Room) (r : ℕ) : Type 0 where
+  pub is : r ≡ q.at
+  pub put : Put e (errors_bytes 2 q.errors) e'
+  pub low : at ≤ r
+  pub high : r ≤ length s
+  pub paid : e'.next + 10 * at ≤ e.next + 10 * r + slack
 
--- one error, five bytes long, of whatever was expected under the tag
-pub record Erred (tag e place : ℕ) (x x' : List ℕ) (r : ℕ) : Type 0 where
-  pub size : r ≡ e + 5
-  pub put : (w : Expect) → error_tag w ≡ tag → opener w ≡ [] → Put x e (errors_bytes 2 (missing w place ∷ [])) x' r
+-- what a definition calls that was expected
+abbrev pub expect_of : Expected → Expect
+expect_of Digit = Expect.digit
+expect_of Ident = Expect.ident
+expect_of (Closer b) = Expect.closer b
+expect_of Escape = Expect.escape
+expect_of Unicode = Expect.unicode
+expect_of Any = Expect.any
+
+-- one error, of six bytes at the most
+pub record Erred (w : Expect) (place : ℕ) (e e' : Room) : Type 0 where
+  pub few : e'.next ≤ e.next + 6
+  pub put : Put e (errors_bytes 2 (missing w place ∷ [])) e'
 
 -- bytes that were put, so many
-pub record Puts (n : ℕ) (d : List ℕ) (o : ℕ) (bs d' : List ℕ) (r : ℕ) : Type 0 where
-  pub size : r ≡ o + n
-  pub put : Put d o bs d' r
+pub record Puts (n : ℕ) (a : Room) (bs : List ℕ) (b : Room) : Type 0 where
+  pub size : b.next ≡ a.next + n
+  pub put : Put a bs b
 
 -- the value of a hex digit, or 16
 pub record Hexed (b r : ℕ) : Type 0 where
@@ -90,77 +106,66 @@ pub record Coded (s : List ℕ) (at : ℕ) (r : Code) : Type 0 where
   pub high : r.at ≤ length s
 
 -- what was read, put into the rooms of tokens and of errors
-pub record Found (at : ℕ) (ts : Tokens) (es : List Error) (o e : ℕ) (d d' x x' : List ℕ) (r : State) : Type 0 where
-  pub fine : r.deep ≡ 0
-  pub is : r.at ≡ at
-  pub tokens : Put d o (tokens_bytes 2 ts) d' r.tokens
-  pub errors : Put x e (errors_bytes 2 es) x' r.errors
+pub record Found (at : ℕ) (ts : Tokens) (es : List Error) (t t' e e' : Room) (r : ℕ) : Type 0 where
+  pub is : r ≡ at
+  pub tokens : Put t (tokens_bytes 2 ts) t'
+  pub errors : Put e (errors_bytes 2 es) e'
 
-abbrev pub Says : Read → ℕ → ℕ → List ℕ → List ℕ → List ℕ → List ℕ → State → Type 0
-Says (read at ts es) o e d d' x x' r = Found at ts es o e d d' x x' r
-Says (deep p) o e d d' x x' r = r.deep ≡ suc p
+abbrev pub Says : Read → Room → Room → Room → Room → Result ℕ TooDeep → Type 0
+Says (read at ts es) t t' e e' (Ok r) = Found at ts es t t' e e' r
+Says (read at ts es) t t' e e' (Err f) = ⊥
+Says (deep p) t t' e e' (Ok r) = ⊥
+Says (deep p) t t' e e' (Err f) = f.place ≡ p
 
--- the state after a reading is what the definition says; the rooms are of no account where nesting is refused
-pub record Is (q : Read) (o e : ℕ) (d d' x x' : List ℕ) (r : State) : Type 0 where
-  pub says : Says q o e d d' x x' r
+-- the outcome of a reading is what the definition says; the rooms are of no account where nesting is refused
+pub record Is (q : Read) (t t' e e' : Room) (r : Result ℕ TooDeep) : Type 0 where
+  pub says : Says q t t' e e' r
 
--- A state at a place in the source, with offsets that are paid for.
-pub record Ready (s : List ℕ) (st : State) : Type 0 where
-  pub place : st.at ≤ length s
-  pub tokens : st.tokens + 10 * length s ≤ 10 * st.at + 1048576
-  pub errors : st.errors + 10 * length s ≤ 10 * st.at + 1048576
+-- A place in the source, with offsets in the rooms that are paid for.
+pub record Ready (s : List ℕ) (at : ℕ) (t e : Room) : Type 0 where
+  pub place : at ≤ length s
+  pub tokens : t.next + 10 * length s ≤ 10 * at + 1048576
+  pub errors : e.next + 10 * length s ≤ 10 * at + 1048576
 
 -- A reading moves so many steps at least, and each byte that it passes pays for ten bytes put, with the slack that its caller has paid for.
-pub record Paid (s : List ℕ) (step slack : ℕ) (st r : State) : Type 0 where
-  pub low : st.at + step ≤ r.at
-  pub high : r.at ≤ length s
-  pub tokens : r.tokens + 10 * st.at ≤ st.tokens + 10 * r.at
-  pub errors : r.errors + 10 * st.at ≤ st.errors + 10 * r.at + slack
+pub record Paid (s : List ℕ) (step slack at : ℕ) (t t' e e' : Room) (r : ℕ) : Type 0 where
+  pub low : at + step ≤ r
+  pub high : r ≤ length s
+  pub tokens : t'.next + 10 * at ≤ t.next + 10 * r
+  pub errors : e'.next + 10 * at ≤ e.next + 10 * r + slack
 
 -- a reading that nests nothing
-pub record Reads (q : Read) (s : List ℕ) (step slack : ℕ) (st : State) (d d' x x' : List ℕ) (r : State) : Type 0 where
-  pub is : Is q st.tokens st.errors d d' x x' r
-  pub paid : Paid s step slack st r
+pub record Reads (q : Read) (s : List ℕ) (step slack at : ℕ) (t t' e e' : Room) (r : ℕ) : Type 0 where
+  pub is : Is q t t' e e' (Ok r)
+  pub paid : Paid s step slack at t t' e e' r
+  pub out : t'.bytes.ghost_name ≡ t.bytes.ghost_name
+  pub err : e'.bytes.ghost_name ≡ e.bytes.ghost_name
 
 -- one of the cycle, whatever the number that bounds it, if that is above the measure
-pub record Lexes (f : ℕ → Read) (μ : ℕ) (s : List ℕ) (step slack : ℕ) (st : State) (d d' x x' : List ℕ) (r : State) : Type 0 where
-  pub is : (k : ℕ) → μ < k → Is (f k) st.tokens st.errors d d' x x' r
-  pub paid : Paid s step slack st r
-
--- an error where a state stands
-pub record Wrongs (tag : ℕ) (st : State) (x x' : List ℕ) (r : State) : Type 0 where
-  pub is : (w : Expect) → error_tag w ≡ tag → opener w ≡ [] → (d : List ℕ) → Is (wrong w st.at) st.tokens st.errors d d x x' r
-  pub at : r.at ≡ st.at
-  pub tokens : r.tokens ≡ st.tokens
-  pub errors : r.errors ≡ st.errors + 5
-
--- a character that ends where a state stands
-pub record Chars (code : ℕ) (st : State) (d d' : List ℕ) (r : State) : Type 0 where
-  pub is : (x : List ℕ) → Is (found (char code) st.at) st.tokens st.errors d d' x x r
-  pub at : r.at ≡ st.at
-  pub tokens : r.tokens ≡ st.tokens + 7
-  pub errors : r.errors ≡ st.errors
+pub record Lexes (f : ℕ → Read) (μ : ℕ) (s : List ℕ) (step slack at : ℕ) (t t' e e' : Room) (r : Result ℕ TooDeep) : Type 0 where
+  pub is : (k : ℕ) → μ < k → Is (f k) t t' e e' r
+  pub paid : IfOk r (λ p. Paid s step slack at t t' e e' p)
+  pub out : t'.bytes.ghost_name ≡ t.bytes.ghost_name
+  pub err : e'.bytes.ghost_name ≡ e.bytes.ghost_name
 
 -- a text part, put where it is not empty
-pub record Texts (s : List ℕ) (st : State) (d d' : List ℕ) (r : State) : Type 0 where
-  pub fine : r.deep ≡ 0
-  pub is : r.at ≡ past text_byte s st.at
-  pub put : Put d st.tokens (tokens_bytes 2 (text st.at r.at)) d' r.tokens
-  pub errors : r.errors ≡ st.errors
-  pub low : st.at ≤ r.at
-  pub high : r.at ≤ length s
-  pub tokens : r.tokens + 10 * st.at ≤ st.tokens + 10 * r.at
+pub record Texts (s : List ℕ) (at : ℕ) (t t' : Room) (r : ℕ) : Type 0 where
+  pub is : r ≡ past text_byte s at
+  pub put : Put t (tokens_bytes 2 (text at r)) t'
+  pub low : at ≤ r
+  pub high : r ≤ length s
+  pub tokens : t'.next + 10 * at ≤ t.next + 10 * r
 
 -- a closing quote, or its error
-pub record Quotes (s : List ℕ) (st : State) (x x' : List ℕ) (r : State) : Type 0 where
-  pub is : (d : List ℕ) → Is (quote s st.at) st.tokens st.errors d d x x' r
-  pub fine : r.deep ≡ 0
-  pub paid : Paid s 0 10 st r
+pub record Quotes (s : List ℕ) (at : ℕ) (e e' : Room) (r : ℕ) : Type 0 where
+  pub is : (t : Room) → Is (quote s at) t t e e' (Ok r)
+  pub low : at ≤ r
+  pub high : r ≤ length s
+  pub errors : e'.next + 10 * at ≤ e.next + 10 * r + 10
+  pub err : e'.bytes.ghost_name ≡ e.bytes.ghost_name
 
--- a string or block that began at st, of what p found in it: its end, and its record in the seven bytes before the members
-pub record Encloses (tag : ℕ) (st p : State) (d d' : List ℕ) (r : State) : Type 0 where
-  pub fine : r.deep ≡ 0
-  pub at : r.at ≡ p.at
-  pub tokens : r.tokens ≡ p.tokens + 3
-  pub errors : r.errors ≡ p.errors
-  pub room : d' ≡ overlay (overlay d p.tokens (field 0x09 [])) st.tokens (pair 2 tag st.at (p.at - st.at))
+-- a string or block of so many bytes: its end, and its record in the seven bytes before the members
+pub record Encloses (tag o start size : ℕ) (a b : Room) : Type 0 where
+  pub same : b.bytes.ghost_name ≡ a.bytes.ghost_name
+  pub next : b.next ≡ a.next + 3
+  pub room : b.bytes.now ≡ overlay (overlay a.bytes.now a.next (field 0x09 [])) o (pair 2 tag start size)

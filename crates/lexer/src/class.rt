@@ -5,70 +5,53 @@ ghost use Rattle.lexer.specs.Sym.{operator, follows};
 ghost use Rattle.lexer.specs.Kind.{kind};
 
 // [a-zA-Z_]
+#[tactic(auto, unfolding(crate::specs::Word::letter))]
 pub fn letter(b: u8) -> bool
     ensures { result ≡ letter b }
 {
     if b >= b'a' {
-        return b <= b'z';
+        b <= b'z'
+    } else {
+        matches!(b, b'A'..=b'Z' | b'_')
     }
-    if b < b'A' {
-        return false;
-    }
-    if b <= b'Z' {
-        return true;
-    }
-    b == b'_'
 }
 
 // [0-9]
 pub fn digit(b: u8) -> bool
     ensures { result ≡ digit b }
 {
-    if b < b'0' {
-        return false;
-    }
-    b <= b'9'
+    b.is_ascii_digit()
 }
 
 // [a-zA-Z0-9_]
+#[tactic(auto, unfolding(crate::specs::Word::word_byte))]
 pub fn word_byte(b: u8) -> bool
     ensures { result ≡ word_byte b }
 {
-    if letter(b) {
-        return true;
-    }
-    digit(b)
+    letter(b) || digit(b)
 }
 
 // One of `|=!<>+*/%`.
+#[tactic(auto, unfolding(crate::specs::Sym::follows, crate::specs::Sym::operator))]
 pub fn follows(b: u8) -> bool
     ensures { result ≡ follows b }
 {
-    match b {
-        b'|' => true,
-        b'=' => true,
-        b'/' => true,
-        b'+' => true,
-        b'*' => true,
-        b'<' => true,
-        b'>' => true,
-        b'!' => true,
-        b'%' => true,
-        _ => false,
-    }
+    matches!(
+        b,
+        b'|' | b'=' | b'/' | b'+' | b'*' | b'<' | b'>' | b'!' | b'%'
+    )
 }
 
 // One of `|=!<>+-*/%`.
+#[tactic(auto, unfolding(crate::specs::Sym::follows, crate::specs::Sym::operator))]
 pub fn operator(b: u8) -> bool
     ensures { result ≡ operator b }
 {
-    if b == b'-' {
-        return true;
-    }
-    follows(b)
+    b == b'-' || follows(b)
 }
 
 // The tag of the token that starts with the byte; 0 where none does.
+#[tactic(auto, unfolding(crate::specs::Kind::kind, crate::specs::Word::letter, crate::specs::Word::digit, crate::specs::Sym::operator))]
 pub fn kind(b: u8) -> u8
     ensures { result ≡ kind b }
 {
@@ -79,27 +62,12 @@ pub fn kind(b: u8) -> u8
         return 4;
     }
     match b {
-        b'.' => 5,
-        b'(' => 7,
+        b'.' | b',' | b':' | b';' | b'?' => 5,
+        b'|' | b'=' | b'+' | b'-' | b'*' | b'/' | b'<' | b'>' | b'!' | b'%' => 5,
+        b'(' | b'[' | b'{' => 7,
         b'"' => 6,
         b'$' => 2,
-        b',' => 5,
-        b':' => 5,
-        b'[' => 7,
-        b'{' => 7,
-        b';' => 5,
-        b'?' => 5,
         b'@' => 3,
-        b'|' => 5,
-        b'=' => 5,
-        b'+' => 5,
-        b'-' => 5,
-        b'*' => 5,
-        b'/' => 5,
-        b'<' => 5,
-        b'>' => 5,
-        b'!' => 5,
-        b'%' => 5,
         _ => 0,
     }
 }

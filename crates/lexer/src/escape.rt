@@ -1,10 +1,10 @@
 // Escapes that nest nothing.
 ghost use Rattle.std.specs.Prelude.{◌≡◌, ◌+◌, ◌≤◌, ◌<◌, length};
 ghost use Rattle.lexer.specs.Escape.{named, surrogate, unicode, simple};
-ghost use Rattle.lexer.specs.Meets.{Hexed, Coded, Ready, Wrongs, Chars, Reads};
+ghost use Rattle.lexer.specs.Meets.{Hexed, Coded, Ready, Reads};
 
-use crate::put::{put_char, put_error};
-use crate::scan::{State, byte_at};
+use crate::put::{Expected, Room};
+use crate::scan::byte_at;
 
 // The value of a hex digit; 16 where the byte is none.
 fn hex(b: u8) -> usize
@@ -70,53 +70,22 @@ fn surrogate(code: usize) -> bool
     code <= 0xDFFF
 }
 
-// An error where the state stands.
-fn wrong(st: State, tag: u8, err: &mut [u8]) -> State
-    requires { st.errors ≤ 1048576 }
-    ensures { Wrongs tag st err.old err.new result }
-{
-    let at = st.at;
-    State {
-        at: at,
-        tokens: st.tokens,
-        errors: put_error(err, st.errors, tag, at),
-        deep: 0,
-    }
-}
-
-// A character that ends where the state stands.
-fn found(st: State, code: usize, out: &mut [u8]) -> State
-    requires { (st.tokens ≤ 1048576) × (code < 65536) }
-    ensures { Chars code st out.old out.new result }
-{
-    State {
-        at: st.at,
-        tokens: put_char(out, st.tokens, code),
-        errors: st.errors,
-        deep: 0,
-    }
-}
-
 // Behind the `u`.
-fn unicode(s: &[u8], st: State, out: &mut [u8], err: &mut [u8]) -> State
-    requires { Ready s.now st }
-    ensures { Reads (unicode s.now st.at) s.now 0 10 st out.old out.new err.old err.new result }
+fn unicode(s: &[u8], at: usize, out: &mut Room<'_>, err: &mut Room<'_>) -> usize
+    requires { Ready s.now at out.old err.old }
+    ensures { Reads (unicode s.now at) s.now 0 10 at out.old out.new err.old err.new result }
 {
-    let at = st.at;
     let c = hexes(s, at);
-    let behind = State {
-        at: c.at,
-        tokens: st.tokens,
-        errors: st.errors,
-        deep: 0,
-    };
     if c.at < at + 4 {
-        return wrong(behind, 0x24, err);
+        err.put_error(Expected::Unicode, c.at);
+        return c.at;
     }
     if surrogate(c.code) {
-        return wrong(st, 0x24, err);
+        err.put_error(Expected::Unicode, at);
+        return at;
     }
-    found(behind, c.code, out)
+    out.put_char(c.code);
+    c.at
 }
 
 // The character that a backslash and the byte stand for; 0 where they stand for none.
@@ -137,30 +106,19 @@ fn named(b: u8) -> usize
 }
 
 // Behind the backslash.
-pub fn simple(s: &[u8], st: State, out: &mut [u8], err: &mut [u8]) -> State
-    requires { Ready s.now st }
-    ensures { Reads (simple s.now st.at) s.now 0 10 st out.old out.new err.old err.new result }
+pub fn simple(s: &[u8], at: usize, out: &mut Room<'_>, err: &mut Room<'_>) -> usize
+    requires { Ready s.now at out.old err.old }
+    ensures { Reads (simple s.now at) s.now 0 10 at out.old out.new err.old err.new result }
 {
-    let at = st.at;
     let b = byte_at(s, at);
     if b == b'u' {
-        let behind = State {
-            at: at + 1,
-            tokens: st.tokens,
-            errors: st.errors,
-            deep: 0,
-        };
-        return unicode(s, behind, out, err);
+        return unicode(s, at + 1, out, err);
     }
     let code = named(b);
     if code == 0 {
-        return wrong(st, 0x23, err);
+        err.put_error(Expected::Escape, at);
+        return at;
     }
-    let behind = State {
-        at: at + 1,
-        tokens: st.tokens,
-        errors: st.errors,
-        deep: 0,
-    };
-    found(behind, code, out)
+    out.put_char(code);
+    at + 1
 }

@@ -1,11 +1,12 @@
 // A lexer's state. "The remaining input `i` is always a suffix of the source": each step's contract says how many bytes it
 // drops from the front of `i`. These are few and thin: they take the lexer apart, and leave the work to functions on the slice.
 ghost use Rattle.std.specs.Prelude.{◌≡◌, take};
+ghost use Rattle.fields.specs.Refusals.{answer_of};
 ghost use Rattle.lexer.specs.Due.{Lexed};
 ghost use Rattle.lexer.specs.Input.{behind, taking, spacing};
 
 use crate::{part, space};
-use fields::Answer;
+use fields::{Listing, Refusal};
 
 #[derive(Clone, Copy)]
 pub struct Lexer<'a> {
@@ -58,8 +59,8 @@ impl<'a> Lexer<'a> {
     }
 
     // Lexes the remaining input into out.
-    pub fn lex(self, out: &mut [u8]) -> Answer
-        ensures { Lexed self.entry.i.now out.old out.new result }
+    pub fn lex(self, out: &mut [u8]) -> Result<Listing, Refusal>
+        ensures { Lexed self.entry.i.now out.old out.new (answer_of result) }
     {
         crate::lex(self.i, out)
     }

@@ -6,67 +6,57 @@ ghost use Rattle.lexer.specs.Num.{digits1, fraction, exponent, num};
 ghost use Rattle.lexer.specs.Meets.{Reaches, Within, Scans};
 
 use crate::class::digit;
-use crate::put::put_error;
-use crate::scan::{Scanned, byte_at, optional};
+use crate::put::{Expected, Room};
+use crate::scan::{byte_at, optional, past};
 
 // [0-9]*
 fn digits0(s: &[u8], at: usize) -> usize
     requires { at ≤ length s.now }
     ensures { Reaches (past digit s.now at) s.now at result }
 {
-    let mut i = at;
-    while i < s.len() {
-        if !digit(s[i]) {
-            return i;
-        }
-        i += 1;
-    }
-    i
+    past(s, at, digit)
 }
 
 // [0-9]+
-fn digits1(s: &[u8], at: usize, err: &mut [u8], e: usize) -> Scanned
-    requires { Within s.now at e }
-    ensures { Scans (digits1 s.now at) s.now at e 10 err.old err.new result }
+fn digits1(s: &[u8], at: usize, err: &mut Room<'_>) -> usize
+    requires { Within s.now at err.old.next }
+    ensures { Scans (digits1 s.now at) s.now at 10 err.old err.new result }
 {
     let a = digits0(s, at);
     if a == at {
-        return Scanned {
-            at: at,
-            errors: put_error(err, e, 0x20, at),
-        };
+        err.put_error(Expected::Digit, at);
     }
-    Scanned { at: a, errors: e }
+    a
 }
 
 // Optional `.` with digits.
-fn fraction(s: &[u8], at: usize, err: &mut [u8], e: usize) -> Scanned
-    requires { Within s.now at e }
-    ensures { Scans (fraction s.now at) s.now at e 0 err.old err.new result }
+fn fraction(s: &[u8], at: usize, err: &mut Room<'_>) -> usize
+    requires { Within s.now at err.old.next }
+    ensures { Scans (fraction s.now at) s.now at 0 err.old err.new result }
 {
     if byte_at(s, at) == b'.' {
-        return digits1(s, at + 1, err, e);
+        return digits1(s, at + 1, err);
     }
-    Scanned { at: at, errors: e }
+    at
 }
 
 // Optional `e` or `E`, one optional sign, digits.
-fn exponent(s: &[u8], at: usize, err: &mut [u8], e: usize) -> Scanned
-    requires { Within s.now at e }
-    ensures { Scans (exponent s.now at) s.now at e 0 err.old err.new result }
+fn exponent(s: &[u8], at: usize, err: &mut Room<'_>) -> usize
+    requires { Within s.now at err.old.next }
+    ensures { Scans (exponent s.now at) s.now at 0 err.old err.new result }
 {
     match byte_at(s, at) {
-        b'e' => digits1(s, optional(s, at + 1, b'+', b'-'), err, e),
-        b'E' => digits1(s, optional(s, at + 1, b'+', b'-'), err, e),
-        _ => Scanned { at: at, errors: e },
+        b'e' => digits1(s, optional(s, at + 1, b'+', b'-'), err),
+        b'E' => digits1(s, optional(s, at + 1, b'+', b'-'), err),
+        _ => at,
     }
 }
 
 // A number, behind its first digit.
-pub fn num(s: &[u8], at: usize, err: &mut [u8], e: usize) -> Scanned
-    requires { Within s.now at e }
-    ensures { Scans (num s.now at) s.now at e 0 err.old err.new result }
+pub fn num(s: &[u8], at: usize, err: &mut Room<'_>) -> usize
+    requires { Within s.now at err.old.next }
+    ensures { Scans (num s.now at) s.now at 0 err.old err.new result }
 {
-    let f = fraction(s, digits0(s, at), err, e);
-    exponent(s, f.at, err, f.errors)
+    let f = fraction(s, digits0(s, at), err);
+    exponent(s, f, err)
 }

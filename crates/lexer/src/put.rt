@@ -1,76 +1,116 @@
-// The fields of a listing, put into a room of tokens or of errors.
-ghost use Rattle.std.specs.Prelude.{◌≡◌, [], ◌∷◌, ◌+◌, ◌*◌, ◌^◌, ◌≤◌, ◌<◌};
-ghost use Rattle.fields.specs.Field.{field};
-ghost use Rattle.fields.specs.Room.{overlay};
-ghost use Rattle.lexer.specs.Token.{one, leaf, char, missing, closer};
+// The rooms of tokens and of errors, and the fields that are put into them.
+ghost use Rattle.std.specs.Prelude.{◌≡◌, [], ◌∷◌, ◌+◌, ◌*◌, ◌^◌, ◌≤◌, ◌<◌, length};
+ghost use Rattle.lexer.specs.Token.{one, leaf, char};
 ghost use Rattle.lexer.specs.Lex.{text};
-ghost use Rattle.lexer.specs.Listing.{tokens_bytes, errors_bytes};
-ghost use Rattle.lexer.specs.Meets.{Put, Puts, Erred};
+ghost use Rattle.lexer.specs.Listing.{pair, error_tag, tokens_bytes};
+ghost use Rattle.lexer.specs.Meets.{expect_of, Opened, Put, Puts, Erred, Encloses};
 
-// An error with its place.
-pub fn put_error(err: &mut [u8], e: usize, tag: u8, place: usize) -> usize
-    requires { e + 5 < 2 ^ 64 }
-    ensures { Erred tag e place err.old err.new result }
-{
-    let bytes = [tag, 2, 0, (place % 256) as u8, (place / 256 % 256) as u8];
-    fields::put(err, e, &bytes)
+// What was expected where something else stands, as "Digit" or "Delim also its opener byte".
+#[derive(Clone, Copy)]
+pub enum Expected {
+    Digit,
+    Ident,
+    Closer(u8),
+    Escape,
+    Unicode,
+    Any,
 }
 
-// A Delim, with its opener.
-pub fn put_delim(err: &mut [u8], e: usize, opener: u8, place: usize) -> usize
-    requires { e + 6 < 2 ^ 64 }
-    ensures { Puts 6 err.old e (errors_bytes 2 (missing (closer opener) place ∷ [])) err.new result }
-{
-    let bytes = [
-        0x22,
-        3,
-        0,
-        (place % 256) as u8,
-        (place / 256 % 256) as u8,
-        opener,
-    ];
-    fields::put(err, e, &bytes)
-}
-
-// A token with its start and length.
-pub fn put_leaf(out: &mut [u8], o: usize, tag: u8, start: usize, size: usize) -> usize
-    requires { o + 7 < 2 ^ 64 }
-    ensures { Puts 7 out.old o (tokens_bytes 2 (one (leaf tag start size))) out.new result }
-{
-    fields::put_pair(out, o, tag, start, size)
-}
-
-// A character: what is escaped has two bytes, and two more that are 0.
-pub fn put_char(out: &mut [u8], o: usize, code: usize) -> usize
-    requires { (o + 7 < 2 ^ 64) × (code < 65536) }
-    ensures { Puts 7 out.old o (tokens_bytes 2 (one (char code))) out.new result }
-{
-    fields::put_pair(out, o, 0x0A, code, 0)
-}
-
-// A text part, unless it is empty.
-pub fn put_text(out: &mut [u8], o: usize, from: usize, to: usize) -> usize
-    requires { (o + 7 < 2 ^ 64) × (from ≤ to) }
-    ensures { (result + 10 * from ≤ o + 10 * to) × Put out.old o (tokens_bytes 2 (text from to)) out.new result }
-{
-    if to == from {
-        return o;
+impl Expected {
+    #[tactic(auto, unfolding(crate::specs::Listing::error_tag))]
+    fn tag(self) -> u8
+        ensures { result ≡ error_tag (expect_of self) }
+    {
+        match self {
+            Expected::Digit => 0x20,
+            Expected::Ident => 0x21,
+            Expected::Closer(_) => 0x22,
+            Expected::Escape => 0x23,
+            Expected::Unicode => 0x24,
+            Expected::Any => 0x25,
+        }
     }
-    put_leaf(out, o, 0x08, from, to - from)
 }
 
-// The end of a string or block.
-pub fn put_end(out: &mut [u8], o: usize) -> usize
-    requires { o + 3 < 2 ^ 64 }
-    ensures { (result ≡ o + 3) × (out.new ≡ overlay out.old o (field 0x09 [])) }
-{
-    let end = o + 3;
-    if end <= out.len() {
-        out[o] = 9;
-        out[o + 1] = 0;
-        out[o + 2] = 0;
-        return end;
+// Room that is lent for a listing, and the offset where the listing goes on. The offset counts on behind the room's end, so
+// that over a room that is too short, or empty, the same code counts.
+#[derive(Drop)]
+pub struct Room<'a> {
+    pub bytes: &'a mut [u8],
+    pub next: usize,
+}
+
+impl<'a> Room<'a> {
+    // A room in which a listing opens with its edition.
+    pub fn new(bytes: &'a mut [u8]) -> Room<'a>
+        ensures same { result.bytes.ghost_name ≡ bytes.entry.ghost_name }
+        ensures opened { Opened bytes.old result }
+    {
+        let mut room = Room { bytes, next: 0 };
+        room.put(&[0, 1, 0, 1]);
+        room
     }
-    let bytes = [9, 0, 0];
-    fields::put(out, o, &bytes)
+
+    // Puts bytes, as far as there is room for them.
+    pub fn put(&mut self, bytes: &[u8])
+        requires { self.old.next + length bytes.now < 2 ^ 64 }
+        ensures { Put self.old bytes.now self.new }
+    {
+        self.next = fields::put(self.bytes, self.next, bytes);
+    }
+
+    // Puts a field of two numbers.
+    fn put_pair(&mut self, tag: u8, a: usize, b: usize)
+        requires { self.old.next + 7 < 2 ^ 64 }
+        ensures { Put self.old (pair 2 tag a b) self.new }
+    {
+        self.next = fields::put_pair(self.bytes, self.next, tag, a, b);
+    }
+
+    // An error: something was expected at a place.
+    pub fn put_error(&mut self, expected: Expected, place: usize)
+        requires { self.old.next + 6 < 2 ^ 64 }
+        ensures { Erred (expect_of expected) place self.old self.new }
+    {
+        let [low, high, ..] = place.to_le_bytes();
+        match expected {
+            Expected::Closer(opener) => self.put(&[expected.tag(), 3, 0, low, high, opener]),
+            _ => self.put(&[expected.tag(), 2, 0, low, high]),
+        }
+    }
+
+    // A token with its start and length.
+    pub fn put_leaf(&mut self, tag: u8, start: usize, size: usize)
+        requires { self.old.next + 7 < 2 ^ 64 }
+        ensures { Puts 7 self.old (tokens_bytes 2 (one (leaf tag start size))) self.new }
+    {
+        self.put_pair(tag, start, size);
+    }
+
+    // A character: what is escaped has two bytes, and two more that are 0.
+    pub fn put_char(&mut self, code: usize)
+        requires { (self.old.next + 7 < 2 ^ 64) × (code < 65536) }
+        ensures { Puts 7 self.old (tokens_bytes 2 (one (char code))) self.new }
+    {
+        self.put_pair(0x0A, code, 0);
+    }
+
+    // A text part, unless it is empty.
+    pub fn put_text(&mut self, from: usize, to: usize)
+        requires { (self.old.next + 7 < 2 ^ 64) × (from ≤ to) }
+        ensures { (self.new.next + 10 * from ≤ self.old.next + 10 * to) × Put self.old (tokens_bytes 2 (text from to)) self.new }
+    {
+        if from < to {
+            self.put_leaf(0x08, from, to - from);
+        }
+    }
+
+    // The end of a string or block, and its record, into the seven bytes that were left for that.
+    pub fn enclose(&mut self, left: usize, tag: u8, start: usize, size: usize)
+        requires { (self.old.next + 3 < 2 ^ 64) × (left + 7 < 2 ^ 64) }
+        ensures { Encloses tag left start size self.old self.new }
+    {
+        self.put(&[9, 0, 0]);
+        fields::put_pair(self.bytes, left, tag, start, size);
+    }
 }

@@ -1,22 +1,25 @@
-// Where a scan stands, and the byte at a place.
-ghost use Rattle.std.specs.Prelude.{[], ◌∷◌, ◌≤◌, ◌<◌, length};
-ghost use Rattle.lexer.specs.Scan.{optional};
-ghost use Rattle.lexer.specs.Meets.{Byte, Reaches};
+// The byte at a place, what stands there, and how far it goes.
+ghost use Rattle.std.specs.Prelude.{Bool, ℕ, [], ◌∷◌, ◌≤◌, ◌<◌, length};
+ghost use Rattle.lexer.specs.Scan.{optional, past};
+ghost use Rattle.lexer.specs.Meets.{Byte, Reaches, Tests};
 
-// The end of a scan that finds no tokens: its place, and the next offset in the room of errors.
+use fields::Refusal;
+
+// An opener that nests too deep, and its place.
 #[derive(Clone, Copy)]
-pub struct Scanned {
-    pub at: usize,
-    pub errors: usize,
+pub struct TooDeep {
+    pub place: usize,
 }
 
-// Reading: the place, the next offset in the room of tokens and in that of errors. Where an opener nests too deep, deep is one more than its place; else 0.
-#[derive(Clone, Copy)]
-pub struct State {
-    pub at: usize,
-    pub tokens: usize,
-    pub errors: usize,
-    pub deep: usize,
+impl From<TooDeep> for Refusal {
+    ghost use Rattle.std.specs.Prelude.{◌≡◌};
+    ghost use Rattle.fields.specs.declared.Refusal.TheVariants as refusal;
+
+    ghost from_gives = { λ deep r. r ≡ refusal.TooDeep deep.place };
+
+    fn from(deep: TooDeep) -> Refusal {
+        Refusal::TooDeep(deep.place)
+    }
 }
 
 // The byte at a place; 0 at the end.
@@ -43,4 +46,18 @@ pub fn optional(s: &[u8], at: usize, one: u8, other: u8) -> usize
         return at + 1;
     }
     at
+}
+
+// The place past the bytes of a class that start at a place: of whatever class the test is of.
+pub fn past<F: Fn(u8) -> bool>(s: &[u8], at: usize, test: F) -> usize
+    requires place { at ≤ length s.now }
+    requires callable { F.IsAlwaysCallable test }
+    ensures { (p : ℕ → Bool) → Tests (F.post test) p → Reaches (past p s.now at) s.now at result }
+{
+    for i in at..s.len() {
+        if !test(s[i]) {
+            return i;
+        }
+    }
+    s.len()
 }

@@ -1,27 +1,11 @@
 // Symbols.
-ghost use Rattle.std.specs.Prelude.{◌+◌, ◌≤◌, ◌<◌, length};
-ghost use Rattle.lexer.specs.Scan.{past};
-ghost use Rattle.lexer.specs.Sym.{follows, dot, sym};
+ghost use Rattle.std.specs.Prelude.{◌+◌, ◌<◌, length};
+ghost use Rattle.lexer.specs.Sym.{dot, sym};
 ghost use Rattle.lexer.specs.Meets.{Reaches};
 
 use crate::class::{follows, letter, operator};
-use crate::scan::byte_at;
+use crate::scan::{byte_at, past};
 use crate::word::ident0;
-
-// As many of `|=!<>+*/%` as follow.
-fn operators(s: &[u8], at: usize) -> usize
-    requires { at ≤ length s.now }
-    ensures { Reaches (past follows s.now at) s.now at result }
-{
-    let mut i = at;
-    while i < s.len() {
-        if !follows(s[i]) {
-            return i;
-        }
-        i += 1;
-    }
-    i
-}
 
 // From a `.` on.
 fn dot(s: &[u8], at: usize) -> usize
@@ -45,7 +29,7 @@ pub fn sym(s: &[u8], at: usize) -> usize
 {
     let b = byte_at(s, at);
     if operator(b) {
-        return operators(s, at + 1);
+        return past(s, at + 1, follows);
     }
     if b == b'.' {
         return dot(s, at);

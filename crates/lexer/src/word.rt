@@ -4,51 +4,39 @@ ghost use Rattle.lexer.specs.Word.{ident0, ident1, mod_then_ident};
 ghost use Rattle.lexer.specs.Meets.{Reaches, Within, Scans};
 
 use crate::class::{letter, word_byte};
-use crate::put::put_error;
-use crate::scan::{Scanned, byte_at, optional};
+use crate::put::{Expected, Room};
+use crate::scan::{byte_at, optional, past};
 
 // [a-zA-Z0-9_]*
 pub fn ident0(s: &[u8], at: usize) -> usize
     requires { at ≤ length s.now }
     ensures { Reaches (ident0 s.now at) s.now at result }
 {
-    let mut i = at;
-    while i < s.len() {
-        if !word_byte(s[i]) {
-            return i;
-        }
-        i += 1;
-    }
-    i
+    past(s, at, word_byte)
 }
 
 // [a-zA-Z_][a-zA-Z0-9_]*
-pub fn ident1(s: &[u8], at: usize, err: &mut [u8], e: usize) -> Scanned
-    requires { Within s.now at e }
-    ensures { Scans (ident1 s.now at) s.now at e 10 err.old err.new result }
+pub fn ident1(s: &[u8], at: usize, err: &mut Room<'_>) -> usize
+    requires { Within s.now at err.old.next }
+    ensures { Scans (ident1 s.now at) s.now at 10 err.old err.new result }
 {
     if letter(byte_at(s, at)) {
-        return Scanned {
-            at: ident0(s, at + 1),
-            errors: e,
-        };
+        return ident0(s, at + 1);
     }
-    Scanned {
-        at: at,
-        errors: put_error(err, e, 0x21, at),
-    }
+    err.put_error(Expected::Ident, at);
+    at
 }
 
 // A word, behind its first letter.
-pub fn mod_then_ident(s: &[u8], at: usize, err: &mut [u8], e: usize) -> Scanned
-    requires { Within s.now at e }
-    ensures { Scans (mod_then_ident s.now at) s.now at e 0 err.old err.new result }
+pub fn mod_then_ident(s: &[u8], at: usize, err: &mut Room<'_>) -> usize
+    requires { Within s.now at err.old.next }
+    ensures { Scans (mod_then_ident s.now at) s.now at 0 err.old err.new result }
 {
     let a = ident0(s, at);
     if byte_at(s, a) == b':' {
         if byte_at(s, a + 1) == b':' {
-            return ident1(s, optional(s, a + 2, b'@', b'$'), err, e);
+            return ident1(s, optional(s, a + 2, b'@', b'$'), err);
         }
     }
-    Scanned { at: a, errors: e }
+    a
 }

@@ -45,7 +45,7 @@ impl Entry {
     {
         match self {
             Entry::Climb => Answer::from(climber::climb(input, room)),
-            Entry::Lex => lexer::lex(input, room),
+            Entry::Lex => Answer::from(lexer::lex(input, room)),
         }
     }
 }

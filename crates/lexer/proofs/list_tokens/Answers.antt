@@ -5,16 +5,16 @@ use Prim.Native.Nat.{ℕ}
 use native.Mathlib.Omega.{arith}
 use lib.Seq.{length-take-le}
 use Rattle.fields.specs.Room.{overlay}
-use Rattle.lexer.proofs.Entries.{tokens-short, tokens-told}
+use Rattle.lexer.proofs.Entries.{told-short, told, never, tokens-hold}
 use Rattle.lexer.proofs.list_tokens.Goals as goal
 
 pub returns-then-size-out : goal.returns-then-size-out
 returns-then-size-out c =
     let p = c.requires in
-    rw c.refused.ensures (tokens-short _ _ p.1 p.2 (omega arith))
+    told-short _ _ _ _ _ p.1 p.2 (omega arith)
 
-pub slice_bounds-put-end-then-size-scratch : goal.slice_bounds-put-end-then-size-scratch
-slice_bounds-put-end-then-size-scratch c = sym (length-take-le _ _ (omega arith))
+pub slice_bounds-put-end : goal.slice_bounds-put-end
+slice_bounds-put-end c = sym (length-take-le _ _ (omega arith))
 
 pub put-requires : goal.put-requires
 put-requires c =
@@ -25,11 +25,13 @@ pub returns-then-size-scratch : goal.returns-then-size-scratch
 returns-then-size-scratch c =
     let a = c.args in
     let p = c.requires in
-    let l = c.put.ensures.1 ∙ ap (λ (x : List ℕ). overlay a.out.now 0 x) (p.5 c.if-size-scratch.true) in
-    tokens-told _ _ p.1 p.2 _ _ p.3 c.if-size-out.false p.4 l
+    let l = c.put.ensures.1 ∙ ap (λ (x : List ℕ). overlay a.out.now 0 x) (p.4 c.if-size-scratch.true) in
+    told _ _ _ _ _ p.1 p.2 _ (omega arith) p.3 l
 
-pub returns : goal.returns
-returns c =
+pub returns-in_ok-whole : goal.returns-in_ok-whole
+returns-in_ok-whole c =
     let p = c.requires in
-    let w = c.whole.ensures.tokens p.1 in
-    tokens-told _ _ p.1 p.2 _ _ p.3 c.if-size-out.false p.4 w.room
+    told _ _ _ _ _ p.1 p.2 _ (omega arith) p.3 (tokens-hold _ _ _ _ _ _ c.in_ok-whole.ensures).room
+
+pub returns-in_err-whole : goal.returns-in_err-whole
+returns-in_err-whole c = absurd (never _ _ _ _ _ _ _ _ c.requires.1 c.in_err-whole.ensures)

@@ -2,8 +2,8 @@
 use Rattle.lexer.proofs.Wholes.{rest-wrong, rest-none}
 use Rattle.lexer.proofs.rest.Goals as goal
 
-pub returns-then-at-s : goal.returns-then-at-s
-returns-then-at-s c = rest-wrong _ _ _ c.space-at.ensures.is _ _ _ c.if-at-s.true c.put_error.ensures
+pub returns-then-end-s : goal.returns-then-end-s
+returns-then-end-s c = rest-wrong _ _ _ c.space-end.ensures.is _ _ c.if-end-s.true c.put_error.ensures
 
-pub returns : goal.returns
-returns c = rest-none _ _ _ c.space-at.ensures.is _ c.if-at-s.false
+pub returns-else-end-s : goal.returns-else-end-s
+returns-else-end-s c = rest-none _ _ _ c.space-end.ensures.is _ c.if-end-s.false

@@ -1,22 +1,21 @@
 -- `lexer::through` meets its contract: nesting is refused, or there are errors, or there are tokens. Assumes nothing.
-use mathlib.Core.Path.{sym, ◌∙◌}
-use native.Mathlib.Omega.{arith}
-use Rattle.lexer.proofs.Entries.{told-deep, scratched}
+use Rattle.std.proofs.lemmas.Result.{err_from_is_err_and}
+use Rattle.lexer.proofs.Entries.{told-deep, due-errors, due-tokens, errors-hold, tokens-hold, scratched}
 use Rattle.lexer.proofs.through.Goals as goal
 
-pub returns-then-p-ne0 : goal.returns-then-p-ne0
-returns-then-p-ne0 c =
-    let w = c.whole-p.ensures in
-    rw c.refused.ensures (told-deep _ _ _ c.requires.few w.nesting c.if-p-ne0.true)
+pub returns-in_err-sizes : goal.returns-in_err-sizes
+returns-in_err-sizes c =
+    let p = err_from_is_err_and c.from_residual.result c.from_residual.ensures.1 in
+    rw (p.1, p.2) (told-deep _ _ _ _ _ _ _ c.requires.few c.in_err-sizes.ensures)
 
 pub list_errors-requires : goal.list_errors-requires
 list_errors-requires c =
-    let w = c.whole-p.ensures in
-    let z = sym w.nesting ∙ c.if-p-ne0.false in
-    (c.requires, z, omega (arith, (w.errors z).next), c.if-p-gt4.true, w.faults)
+    let w = c.in_ok-sizes.ensures in
+    let h = errors-hold _ _ _ _ _ _ w in
+    (c.requires, due-errors _ _ _ _ _ _ w c.if-sizes-gt4.true, h.size, h.few)
 
 pub list_tokens-requires : goal.list_tokens-requires
 list_tokens-requires c =
-    let w = c.whole-p.ensures in
-    let z = sym w.nesting ∙ c.if-p-ne0.false in
-    (c.requires, z, omega (arith, (w.errors z).next), omega (arith, (w.tokens z).next), w.few, λ h. scratched _ _ _ _ (w.tokens z) h)
+    let w = c.in_ok-sizes.ensures in
+    let h = tokens-hold _ _ _ _ _ _ w in
+    (c.requires, due-tokens _ _ _ _ _ _ w c.if-sizes-gt4.false, h.size, h.few, λ l. scratched _ _ _ _ h l)

@@ -1,9 +1,19 @@
 -- `lexer::whole` meets its contract: the editions, the top tokens, and what follows them. Assumes nothing.
-use Rattle.lexer.proofs.Wholes.{whole-stops, whole-reads}
+use native.Mathlib.Omega.{arith}
+use Rattle.std.proofs.lemmas.Result.{err_from_is_err_and}
+use Rattle.lexer.proofs.Wholes.{begins, goes_on, whole-stops, whole-reads}
 use Rattle.lexer.proofs.whole.Goals as goal
 
-pub returns-then-p-ne0 : goal.returns-then-p-ne0
-returns-then-p-ne0 c = whole-stops _ _ _ _ _ _ _ _ _ _ c.requires c.put-o.ensures.0 c.put-o.ensures.1 c.put-e.ensures.0 c.put-e.ensures.1 _ c.tokens-p.ensures c.if-p-ne0.true
+pub tokens-requires : goal.tokens-requires
+tokens-requires c = begins _ _ c.requires _ _ _ c.new-tokens.result _ c.new-errors.result c.new-tokens.ensures.opened c.new-errors.ensures.opened
+
+pub rest-requires : goal.rest-requires
+rest-requires c = goes_on _ _ c.requires c.args.out.now _ _ _ _ _ c.new-errors.ensures.opened _ c.in_ok-at.ensures
+
+pub returns-in_err-at : goal.returns-in_err-at
+returns-in_err-at c =
+    let p = err_from_is_err_and c.from_residual.result c.from_residual.ensures.1 in
+    rw (p.1, p.2) (whole-stops _ _ c.requires c.args.out.now c.args.err.now _ _ _ _ _ _ _ c.in_err-at.ensures)
 
 pub returns : goal.returns
-returns c = whole-reads _ _ _ _ _ _ _ _ _ _ c.requires c.put-o.ensures.0 c.put-o.ensures.1 c.put-e.ensures.0 c.put-e.ensures.1 _ c.tokens-p.ensures c.if-p-ne0.false _ _ c.rest.ensures
+returns c = whole-reads _ _ c.requires _ _ _ _ _ _ c.new-tokens.ensures.opened c.new-errors.ensures.opened _ c.in_ok-at.ensures _ c.rest.ensures _ _ (grind arith) (grind arith)

@@ -3,4 +3,4 @@ use Rattle.lexer.proofs.Pieces.{leaf-is}
 use Rattle.lexer.proofs.cycle.leaf.Goals as goal
 
 pub returns : goal.returns
-returns c = leaf-is _ _ _ _ _ _ _ _ _ c.plain-p.ensures c.put_leaf.ensures
+returns c = leaf-is _ _ _ _ _ _ _ _ c.plain-end.ensures c.put_leaf.ensures

@@ -8,11 +8,10 @@ pub returns-then-b-eq117 : goal.returns-then-b-eq117
 returns-then-b-eq117 c = is-unicode _ _ _ _ _ _ _ c.requires _ c.byte_at-b.ensures c.if-b-eq117.true c.unicode.ensures
 
 pub returns-then-code-eq0 : goal.returns-then-code-eq0
-returns-then-code-eq0 c = let a = c.args in is-unknown _ _ _ a.out.now a.out.now _ _ c.requires _ c.byte_at-b.ensures _ c.if-b-eq117.false c.named-code.ensures.0 c.if-code-eq0.true c.wrong.ensures
+returns-then-code-eq0 c = is-unknown _ _ 0 _ c.args.out.now _ _ c.requires _ c.byte_at-b.ensures _ c.if-b-eq117.false c.named-code.ensures.0 c.if-code-eq0.true c.put_error.ensures
 
 pub returns : goal.returns
 returns c =
-    let a = c.args in
     let b = c.byte_at-b.ensures in
     let l = named_some _ (λ z. c.if-code-eq0.false (c.named-code.ensures.0 ∙ z)) in
-    is-named _ _ _ _ _ a.err.now a.err.now c.requires _ b _ c.if-b-eq117.false c.named-code.ensures.0 c.if-code-eq0.false (omega (arith, b.within, l)) c.found.ensures
+    is-named _ _ 0 _ _ _ c.args.err.now c.requires _ b _ c.if-b-eq117.false c.named-code.ensures.0 c.if-code-eq0.false (omega (arith, b.within, l)) c.put_char.ensures

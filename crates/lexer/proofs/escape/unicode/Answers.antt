@@ -4,10 +4,10 @@ use Rattle.lexer.proofs.Escapes.{bad-digit, bad-code, good-code}
 use Rattle.lexer.proofs.escape.unicode.Goals as goal
 
 pub returns-then-c-at : goal.returns-then-c-at
-returns-then-c-at c = let a = c.args in bad-digit _ _ _ a.out.now a.out.now _ _ c.requires _ c.hexes-c.ensures c.if-c-at.true c.wrong.ensures
+returns-then-c-at c = bad-digit _ _ 0 _ c.args.out.now _ _ c.requires _ c.hexes-c.ensures c.if-c-at.true c.put_error.ensures
 
 pub returns-then-surrogate : goal.returns-then-surrogate
-returns-then-surrogate c = let a = c.args in bad-code _ _ _ a.out.now a.out.now _ _ c.requires _ c.hexes-c.ensures c.if-c-at.false (sym c.surrogate.ensures ∙ c.if-surrogate.true) c.wrong-then-surrogate.ensures
+returns-then-surrogate c = bad-code _ _ 0 _ c.args.out.now _ _ c.requires _ c.hexes-c.ensures c.if-c-at.false (sym c.surrogate.ensures ∙ c.if-surrogate.true) c.put_error-then-surrogate.ensures
 
 pub returns : goal.returns
-returns c = let a = c.args in good-code _ _ _ _ _ a.err.now a.err.now c.requires _ c.hexes-c.ensures c.if-c-at.false (sym c.surrogate.ensures ∙ c.if-surrogate.false) c.found.ensures
+returns c = good-code _ _ 0 _ _ _ c.args.err.now c.requires _ c.hexes-c.ensures c.if-c-at.false (sym c.surrogate.ensures ∙ c.if-surrogate.false) c.put_char.ensures

@@ -1,33 +1,30 @@
 -- `space::blank` meets its contract: an ASCII byte by the table of White_Space, any other character by its code. Assumes nothing.
-use mathlib.Core.Path.{refl, sym, ◌∙◌}
+use mathlib.Core.Path.{sym, ◌∙◌}
+use Rattle.std.proofs.Common.{arith}
+use Rattle.std.proofs.lemmas.Grind.{common_steps}
 use Rattle.text.specs.Space.{white_space, spaces}
-use Rattle.lexer.proofs.Every.{every}
 use Rattle.lexer.proofs.Blanks.{no-space, a-space, wide-space, no-wide}
 use borrow.Author.Rules.{rules}
 use Rattle.lexer.proofs.space.blank.Goals as goal
 
-pub returns-then-b-gt32 : goal.returns-then-b-gt32
-unfolding white_space spaces every
-returns-then-b-gt32 c = no-space _ _ _ c.byte_at-b.ensures 33 95 refl (search rules) (search rules) (search rules) (search rules)
-
-pub returns-then-b-eq32 : goal.returns-then-b-eq32
-unfolding white_space spaces every
-returns-then-b-eq32 c = a-space _ _ _ c.byte_at-b.ensures 32 1 refl (search rules) (search rules) (search rules) (search rules)
-
-pub returns-then-b-gt13 : goal.returns-then-b-gt13
-unfolding white_space spaces every
-returns-then-b-gt13 c = no-space _ _ _ c.byte_at-b.ensures 14 18 refl (search rules) (search rules) (search rules) (search rules)
-
-pub returns-then-b-ge9 : goal.returns-then-b-ge9
-unfolding white_space spaces every
-returns-then-b-ge9 c = a-space _ _ _ c.byte_at-b.ensures 9 5 refl (search rules) (search rules) (search rules) (search rules)
-
-pub returns-then-b-lt128 : goal.returns-then-b-lt128
-unfolding white_space spaces every
-returns-then-b-lt128 c = no-space _ _ _ c.byte_at-b.ensures 0 9 refl (search rules) (search rules) (search rules) (search rules)
-
 pub returns-then-white_space : goal.returns-then-white_space
 returns-then-white_space c = wide-space _ _ _ c.char_at-c.ensures (sym c.white_space.ensures ∙ c.if-white_space.true) (search rules)
 
-pub returns : goal.returns
-returns c = no-wide _ _ _ c.char_at-c.ensures (sym c.white_space.ensures ∙ c.if-white_space.false) (search rules)
+pub returns-else-white_space : goal.returns-else-white_space
+returns-else-white_space c = no-wide _ _ _ c.char_at-c.ensures (sym c.white_space.ensures ∙ c.if-white_space.false) (search rules)
+
+pub returns-in-0-to-127 : goal.returns-in-0-to-127
+unfolding white_space spaces
+returns-in-0-to-127 c = no-space _ _ _ c.byte_at.ensures (omega arith) c.requires (grind (arith, common_steps))
+
+pub returns-in-0-to-127-2 : goal.returns-in-0-to-127-2
+unfolding white_space spaces
+returns-in-0-to-127-2 c = no-space _ _ _ c.byte_at.ensures (omega arith) c.requires (grind (arith, common_steps))
+
+pub returns-in-9-to-13 : goal.returns-in-9-to-13
+unfolding white_space spaces
+returns-in-9-to-13 c = a-space _ _ _ c.byte_at.ensures (omega arith) c.requires (grind (arith, common_steps)) (omega arith)
+
+pub returns-in-9-to-13-2 : goal.returns-in-9-to-13-2
+unfolding white_space spaces
+returns-in-9-to-13-2 c = a-space _ _ _ c.byte_at.ensures (omega arith) c.requires (grind (arith, common_steps)) (omega arith)

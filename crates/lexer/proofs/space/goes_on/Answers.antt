@@ -1,15 +1,14 @@
--- `space::goes_on` meets its contract: backslashes are counted from the end of the line back. Assumes nothing.
-use Rattle.lexer.proofs.Lines.{count-start, count-more, count-stop, count-all}
+-- `space::goes_on` meets its contract. Assumes nothing.
+use mathlib.Core.Path.{ap, refl, ◌∙◌}
+use mathlib.Core.List.{List}
+use Prim.Native.Nat.{ℕ, ◌-◌}
+use native.Mathlib.Omega.{arith}
+use Rattle.std.proofs.Common.{Bor}
+use Rattle.lexer.proofs.Lines.{stripped, goes-on-is}
 use Rattle.lexer.proofs.space.goes_on.Goals as goal
 
-pub loop-i-init : goal.loop-i-init
-loop-i-init c = count-start _ _ _ _ c.less_cr-last.ensures
-
-pub returns-then-s-i-ne92 : goal.returns-then-s-i-ne92
-returns-then-s-i-ne92 c = count-stop _ _ _ _ _ c.loop-i.invariant c.loop-i-test.true c.if-s-i-ne92.true
-
-pub loop-i-preserved : goal.loop-i-preserved
-loop-i-preserved c = count-more _ _ _ _ _ c.loop-i.invariant c.loop-i-test.true c.if-s-i-ne92.false
-
 pub returns : goal.returns
-returns c = count-all _ _ _ _ _ c.loop-i.invariant c.loop-i-test.false
+returns c =
+    let a = c.args in
+    let k = stripped a.s.now a.at (a.end - a.at) _ c.strip_suffix.result (omega arith) refl c.strip_suffix.ensures.cases in
+    goes-on-is _ _ (a.end - a.at) _ _ (omega arith) (ap (λ (x : Bor (List ℕ)). x.now) c.unwrap_or.ensures ∙ k) c.slashes.ensures

@@ -9,7 +9,7 @@ pub ident0-requires : goal.ident0-requires
 ident0-requires c = omega (arith, letter-some _ (sym c.letter.ensures ∙ c.if-letter.true))
 
 pub returns-then-letter : goal.returns-then-letter
-returns-then-letter c = ident-there _ _ _ _ c.args.err.now _ _ c.byte_at.ensures (sym c.letter.ensures ∙ c.if-letter.true) c.ident0.ensures
+returns-then-letter c = ident-there _ _ _ _ _ c.byte_at.ensures (sym c.letter.ensures ∙ c.if-letter.true) c.ident0.ensures
 
 pub returns : goal.returns
-returns c = ident-missed _ _ _ _ _ _ _ c.byte_at.ensures (sym c.letter.ensures ∙ c.if-letter.false) (search rules) c.put_error.ensures
+returns c = ident-missed _ _ _ _ _ c.byte_at.ensures (sym c.letter.ensures ∙ c.if-letter.false) (search rules) c.put_error.ensures

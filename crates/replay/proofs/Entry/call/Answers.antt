@@ -8,4 +8,4 @@ returns-in-Climb c = rw (c.in-Climb.is, c.from.ensures) c.climb.ensures
 
 pub returns-in-Lex : goal.returns-in-Lex
 unfolding outcome
-returns-in-Lex c = rw c.in-Lex.is c.lex.ensures.answers
+returns-in-Lex c = rw (c.in-Lex.is, c.from-in-Lex.ensures) c.lex.ensures.answers

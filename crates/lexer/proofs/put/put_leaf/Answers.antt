@@ -1,6 +1,0 @@
--- `put::put_leaf` meets its contract: the field of two numbers is the token's. Assumes nothing.
-use Rattle.lexer.proofs.Puts.{put-seven}
-use Rattle.lexer.proofs.put.put_leaf.Goals as goal
-
-pub returns : goal.returns
-returns c = put-seven _ _ _ _ _ _ _ c.put_pair.ensures
