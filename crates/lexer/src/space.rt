@@ -27,11 +27,10 @@ fn blank(s: &[u8], at: usize) -> usize
         }
         return 0;
     }
-    let c = text::char_at(s, at);
-    if text::white_space(c.code) {
-        return c.len;
+    match text::char_at(s, at) {
+        Some(c) if text::white_space(c.code) => c.len,
+        _ => 0,
     }
-    0
 }
 
 // 1 where two bytes are the same.

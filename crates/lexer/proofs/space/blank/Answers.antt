@@ -1,8 +1,8 @@
 -- `space::blank` meets its contract: an ASCII byte by the table of White_Space, any other character by its code. Assumes nothing.
-use mathlib.Core.Path.{refl, sym, ◌∙◌}
+use mathlib.Core.Path.{refl, sym}
 use Rattle.text.specs.Space.{white_space, spaces}
 use Rattle.lexer.proofs.Every.{every}
-use Rattle.lexer.proofs.Blanks.{no-space, a-space, wide-space, no-wide}
+use Rattle.lexer.proofs.Blanks.{no-space, a-space, wide-space, no-wide, none-wide}
 use borrow.Author.Rules.{rules}
 use Rattle.lexer.proofs.space.blank.Goals as goal
 
@@ -26,8 +26,11 @@ pub returns-then-b-lt128 : goal.returns-then-b-lt128
 unfolding white_space spaces every
 returns-then-b-lt128 c = no-space _ _ _ c.byte_at-b.ensures 0 9 refl (search rules) (search rules) (search rules) (search rules)
 
-pub returns-then-white_space : goal.returns-then-white_space
-returns-then-white_space c = wide-space _ _ _ c.char_at-c.ensures (sym c.white_space.ensures ∙ c.if-white_space.true) (search rules)
+pub returns-in-Some : goal.returns-in-Some
+returns-in-Some c = wide-space _ _ _ c.in-Some.ensures (sym c.if-white_space.ensures) (search rules)
 
-pub returns : goal.returns
-returns c = no-wide _ _ _ c.char_at-c.ensures (sym c.white_space.ensures ∙ c.if-white_space.false) (search rules)
+pub returns-in_default : goal.returns-in_default
+returns-in_default c = no-wide _ _ _ c.in-Some.ensures (sym c.if-white_space.ensures) (search rules)
+
+pub returns-in_default-2 : goal.returns-in_default-2
+returns-in_default-2 c = none-wide _ _ c.in_default.ensures (search rules)
