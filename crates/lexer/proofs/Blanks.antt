@@ -1,15 +1,16 @@
 -- White space, a character at a time. Assumes nothing.
-use mathlib.Core.Path.{◌≡◌, refl, ◌∙◌}
-use mathlib.Core.Bool.{Bool, true, false, cond, not}
+use mathlib.Core.Path.{◌≡◌, refl, sym, ◌∙◌}
+use mathlib.Core.Bool.{Bool, true, false, cond, not, beq}
 use mathlib.Core.List.{List, []}
 use Prim.Native.Nat.{ℕ, ◌+◌, ◌≤◌, ◌<◌}
 use native.Mathlib.Omega.{arith}
 use lib.ListN.{length, drop, drop_of_length-le, get_or-eq_default}
+use Rattle.std.proofs.Common.{Some, None}
 use lib.Dec.{ltb, eqb}
 use borrow.Author.Tests.{ltb-true, ltb-false, eqb-false}
-use Rattle.text.specs.Utf8.{seq_len, scalar, char_at, bits}
+use Rattle.text.specs.Utf8.{seq_len, scalar, char_at, found, bits}
 use Rattle.text.specs.Space.{white_space, spaces}
-use Rattle.text.proofs.Chars.{is-char, char-ascii}
+use Rattle.text.proofs.Chars.{is-char, char-is, char-none, char-ascii}
 use Rattle.text.specs.declared.Char.{Char}
 use Rattle.lexer.specs.Scan.{byte}
 use Rattle.lexer.specs.Space.{blank}
@@ -63,11 +64,20 @@ module _ (s : List ℕ) (at b : ℕ) (g : Byte s at b) (l : b < 128) (a : at ≤
   pub a-space : white_space b ≡ true → 0 < b → (1 ≡ blank s at) × (at + 1 ≤ length s)
   a-space w z = (rw (blank-ascii s at b g l, w), omega (arith, g.within))
 
-module _ (s : List ℕ) (at : ℕ) (r : Char) (e : r ≡ char_at s at) where
+-- any other character is there, and is a space or none; or it is not there
+module _ (s : List ℕ) (at : ℕ) (r : Char) (e : Some r ≡ found (char_at s at)) where
   pub wide-space : white_space r.code ≡ true → at ≤ length s → (r.len ≡ blank s at) × (at + r.len ≤ length s)
   unfolding blank
-  wide-space w h = let c = is-char s at r e in (rw (← c.code, w) c.len, omega (arith, c.fits))
+  wide-space w h = let c = is-char s at r (char-is s at r e) in (rw (← c.code, w) c.len, omega (arith, c.fits))
 
   pub no-wide : white_space r.code ≡ false → at ≤ length s → (0 ≡ blank s at) × (at + 0 ≤ length s)
   unfolding blank
-  no-wide w h = let c = is-char s at r e in (rw (← c.code, w), omega arith)
+  no-wide w h = let c = is-char s at r (char-is s at r e) in (rw (← c.code, w), omega arith)
+
+pub none-wide : (s : List ℕ) (at : ℕ) → None ≡ found (char_at s at) → at ≤ length s → (0 ≡ blank s at) × (at + 0 ≤ length s)
+unfolding blank
+none-wide s at e h = (go (white_space (scalar (drop at s))), omega arith)
+  where
+    go : (x : Bool) → 0 ≡ cond x (seq_len (drop at s)) 0
+    go true = sym (char-none s at e)
+    go false = refl

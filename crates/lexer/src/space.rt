@@ -15,10 +15,10 @@ fn blank(s: &[u8], at: usize) -> usize
     match byte_at(s, at) {
         b'\t'..=b'\r' | b' ' => 1,
         0x00..=0x7F => 0,
-        _ => {
-            let c = text::char_at(s, at);
-            if text::white_space(c.code) { c.len } else { 0 }
-        }
+        _ => match text::char_at(s, at) {
+            Some(c) if text::white_space(c.code) => c.len,
+            _ => 0,
+        },
     }
 }
 

@@ -3,7 +3,6 @@
 use mathlib.Core.Path.{◌≡◌, refl, sym, ◌∙◌}
 use mathlib.Core.Bool.{Bool, true, false, false≢true}
 use mathlib.Core.Logic.{◌⊎◌, inl, inr, ⊎_elim}
-use mathlib.Core.List.{[]}
 use Prim.Native.Nat.{ℕ, ◌≤◌, ◌<◌}
 use native.Mathlib.Omega.{arith}
 use lib.Dec.{ltb}
@@ -67,11 +66,3 @@ utf8-four c h g =
     let a : 0x80 ≤ c = omega arith in
     let b : 0x800 ≤ c = omega arith in
     rw (scalar-high c (omega arith) g, le-ltb _ _ a, le-ltb _ _ b, le-ltb _ _ h)
-
-pub utf8-surrogate : (c : ℕ) → 0xD800 ≤ c → c < 0xE000 → utf8 c ≡ []
-unfolding utf8 is_scalar scalars
-utf8-surrogate c h g = rw (← outside scalars c (omega arith))
-
-pub utf8-past : (c : ℕ) → 0x110000 ≤ c → utf8 c ≡ []
-unfolding utf8 is_scalar scalars
-utf8-past c h = rw (← outside scalars c (omega arith))

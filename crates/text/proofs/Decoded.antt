@@ -10,8 +10,8 @@ use lib.Dec.{leb}
 use borrow.Author.Tests.{leb-true}
 use Rattle.text.specs.Ranges.{Range, ◌‥◌, within, starts}
 use Rattle.text.specs.Utf8.{Row, table, len_in, seq_len, bits, is_scalar, utf8, two, three, four}
-use Rattle.text.proofs.Rows.{and_left, and_right}
-use Rattle.text.proofs.Encoded.{AllIn, later_of}
+use Rattle.text.proofs.Rows.{and_left, and_right, later_of}
+use Rattle.text.proofs.Encoded.{AllIn}
 use Rattle.text.proofs.Bytes.{scalar-low, scalar-high, utf8-one, utf8-two, utf8-three, utf8-three-high, utf8-four}
 
 abbrev InRow : List Row → ℕ → ℕ → Type 0

@@ -10,7 +10,7 @@ use lib.ListN.{length}
 use borrow.Author.Tests.{le-leb}
 use Rattle.text.specs.Ranges.{Range, starts}
 use Rattle.text.specs.Utf8.{Row, table, len_in, seq_len, bits, scalar, is_scalar, utf8, one, two, three, four}
-use Rattle.text.proofs.Rows.{Leads, here, above}
+use Rattle.text.proofs.Rows.{Leads, later_of, here, above}
 use Rattle.text.proofs.Bytes.{side, scalar-side, utf8-one, utf8-two, utf8-three, utf8-three-high, utf8-four}
 
 -- each byte in its range
@@ -23,11 +23,6 @@ all_in : (rs : List Range) (s : List ℕ) → AllIn rs s → starts rs s ≡ tru
 all_in [] s h = refl
 all_in (r ∷ rs) [] h = absurd h
 all_in (r ∷ rs) (b ∷ s) h = rw (le-leb _ _ h.0.0, le-leb _ _ h.0.1) (all_in rs s h.1)
-
-abbrev pub later_of : List Row → ℕ → List Range
-later_of [] k = []
-later_of (r ∷ rs) zero = r.later
-later_of (r ∷ rs) (suc k) = later_of rs k
 
 hit : (rs : List Row) (k b : ℕ) (s : List ℕ) → Leads rs k b → AllIn (later_of rs k) s → len_in rs b s ≡ suc (length (later_of rs k))
 hit [] k b s h a = absurd h

@@ -1,16 +1,13 @@
 -- The longest valid prefix: its equations, and that it is valid and longest.
 -- Assumes nothing.
-use mathlib.Core.Path.{◌≡◌, refl, sym, ap, ◌∙◌}
+use mathlib.Core.Path.{◌≡◌, refl, ap, ◌∙◌}
 use mathlib.Core.List.{List, [], ◌∷◌, ◌++◌}
-use Prim.Native.Nat.{ℕ, zero, suc, ◌+◌, ◌/◌, ◌≤◌, ◌<◌}
-use native.Mathlib.Nat.{add-zero, add-suc}
-use native.Mathlib.Numerals.{add-one}
+use Prim.Native.Nat.{ℕ, zero, suc, ◌+◌, ◌≤◌, ◌<◌}
 use native.Mathlib.Omega.{arith}
-use lib.ListN.{length, take, drop, get_or, length-drop, take-append-drop, drop_of_length-le}
+use lib.ListN.{length, take, drop, get_or, length-drop, take-append-drop}
 use lib.Seq.{take-add, drop_at, length-take-le, drop-append-le, drop-drop, take-length}
 use Rattle.text.specs.Utf8.{seq_len}
 use Rattle.text.specs.Valid.{Valid, none, more, one_of, passing, valid_prefix, Longest}
-use Rattle.text.specs.Along.{Along, highs}
 use Rattle.text.proofs.Rows.{seq_len-more, seq_len-take, seq_len-fits, seq-ascii}
 
 one_of-le : (m l : ℕ) (f : ℕ → ℕ) → ((n : ℕ) → f n ≤ l) → one_of m f ≤ suc l
@@ -125,41 +122,3 @@ pub valid-at : (s : List ℕ) (i : ℕ) → Valid (drop i s) → i < length s
 valid-at s i v h =
     let n = valid-next v (omega (arith, length-drop i s)) in
     (n.0, rw (drop-drop (seq_len (drop i s)) i s) at n.1)
-
-pub along-here : (s : List ℕ) (at : ℕ) → at ≤ length s → Along s at at
-along-here s at h = record { same = refl; low = omega arith; high = h }
-
-pub along-ascii : (s : List ℕ) (at i : ℕ) → Along s at i → i < length s → get_or s i 0 < 128 → Along s at (i + 1)
-along-ascii s at i a h b =
-    let e : valid_prefix (drop i s) ≡ 1 + valid_prefix (drop (i + 1) s) = prefix-ascii s i h b in
-    record { same = omega (arith, a.same); low = omega arith; high = omega arith }
-
-pub highs-more : (s : List ℕ) (at n k : ℕ) → n ≡ highs s at k → n + get_or s (at + k) 0 / 128 ≡ highs s at (k + 1)
-unfolding highs
-highs-more s at n k e = rw (add-one, e)
-
-along-highs : (s : List ℕ) (at i n : ℕ) → Along s at i → i + n ≤ length s → highs s i n ≡ 0 → Along s at (i + n)
-unfolding highs
-along-highs s at i zero a h e = rw add-zero a
-along-highs s at i (suc n) a h e =
-    rw (add-suc, ← add-one)
-    (along-ascii s at (i + n) (along-highs s at i n a (omega arith) (omega arith)) (omega arith) (omega arith))
-
-pub along-block : (s : List ℕ) (at i n r : ℕ) → Along s at i → i + n ≤ length s → r ≡ highs s i n → r ≡ 0 → Along s at (i + n)
-along-block s at i n r a h e z = along-highs s at i n a h (cc)
-
-pub along-along : (s : List ℕ) (at i r : ℕ) → Along s at i → Along s i r → Along s at r
-along-along s at i r a b =
-    record { same = a.same ∙ b.same; low = omega (arith, a.low, b.low); high = b.high }
-
-pub along-more : (s : List ℕ) (at i n r : ℕ) → Along s at i → n ≡ seq_len (drop i s) → (n ≡ 0 → ⊥) → Along s (i + n) r → Along s at r
-along-more s at i n r a e z b =
-    let q : valid_prefix (drop i s) ≡ n + valid_prefix (drop (i + n) s) = prefix-at s i n (sym e) (omega arith) in
-    record { same = omega (arith, a.same, b.same); low = omega (arith, a.low, b.low); high = b.high }
-
-pub along-stop : (s : List ℕ) (i n : ℕ) → Along s 0 i → n ≡ seq_len (drop i s) → n ≡ 0 → i ≡ valid_prefix s
-along-stop s i n a e z = let q : valid_prefix (drop i s) ≡ 0 = prefix-stops s i (cc) in omega (arith, a.same)
-
-pub along-end : (s : List ℕ) (i : ℕ) → Along s 0 i → length s ≤ i → i ≡ valid_prefix s
-unfolding seq_len
-along-end s i a h = along-stop s i 0 a (rw (drop_of_length-le s h)) refl

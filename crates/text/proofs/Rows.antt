@@ -1,16 +1,15 @@
 -- What the rows of Table 3-7 make of a list: a sequence needs only its own bytes, and the first byte says which row.
 -- Assumes nothing.
-use mathlib.Core.Path.{◌≡◌, refl, sym, ◌∙◌}
-use mathlib.Core.Bool.{Bool, true, false, cond, ◌&&◌, and-true, and-false}
+use mathlib.Core.Path.{◌≡◌, refl, ◌∙◌}
+use mathlib.Core.Bool.{Bool, true, false, cond, ◌&&◌, and-false}
 use mathlib.Core.List.{List, [], ◌∷◌, ◌++◌}
 use Prim.Native.Nat.{ℕ, zero, suc, ◌+◌, ◌-◌, ◌≤◌, ◌<◌}
 use native.Mathlib.Omega.{arith}
 use native.Mathlib.Numerals.{add-one}
 use lib.ListN.{length, take, drop, get_or, length-drop, drop_of_length-le}
-use lib.Seq.{drop-cons, drop-drop}
+use lib.Seq.{drop-cons}
 use borrow.Author.Tests.{le-leb, lt-leb}
-use lib.Dec.{leb}
-use Rattle.text.specs.Ranges.{Range, ◌‥◌, within, starts}
+use Rattle.text.specs.Ranges.{Range, within, starts}
 use Rattle.text.specs.Utf8.{Row, table, len_in, seq_len}
 
 pub and_left : (a b : Bool) → (a && b) ≡ true → a ≡ true
@@ -124,13 +123,19 @@ Leads [] k b = ⊥
 Leads (r ∷ rs) zero b = (r.first.from ≤ b) × (b ≤ r.first.to)
 Leads (r ∷ rs) (suc k) b = (r.first.to < b) × Leads rs k b
 
+-- the ranges of row k past the first
+abbrev pub later_of : List Row → ℕ → List Range
+later_of [] k = []
+later_of (r ∷ rs) zero = r.later
+later_of (r ∷ rs) (suc k) = later_of rs k
+
 -- what row k gives
 abbrev pub row_len : List Row → ℕ → List ℕ → ℕ
 row_len [] k s = 0
 row_len (r ∷ rs) zero s = cond (starts r.later s) (suc (length r.later)) 0
 row_len (r ∷ rs) (suc k) s = row_len rs k s
 
-leads : (rs : List Row) (k b : ℕ) (s : List ℕ) → Leads rs k b → len_in rs b s ≡ row_len rs k s
+pub leads : (rs : List Row) (k b : ℕ) (s : List ℕ) → Leads rs k b → len_in rs b s ≡ row_len rs k s
 leads [] k b s h = absurd h
 leads (r ∷ rs) zero b s h = here r rs b s h.0 h.1
 leads (r ∷ rs) (suc k) b s h = above r rs b s h.0 ∙ leads rs k b s h.1
@@ -141,7 +146,7 @@ Between [] k b = Unit
 Between (r ∷ rs) zero b = (b < r.first.from) × Between rs zero b
 Between (r ∷ rs) (suc k) b = (r.first.to < b) × Between rs k b
 
-between : (rs : List Row) (k b : ℕ) (s : List ℕ) → Between rs k b → len_in rs b s ≡ 0
+pub between : (rs : List Row) (k b : ℕ) (s : List ℕ) → Between rs k b → len_in rs b s ≡ 0
 between [] k b s h = refl
 between (r ∷ rs) zero b s h = below r rs b s h.0 ∙ between rs zero b s h.1
 between (r ∷ rs) (suc k) b s h = above r rs b s h.0 ∙ between rs k b s h.1
@@ -150,10 +155,6 @@ between (r ∷ rs) (suc k) b s h = above r rs b s h.0 ∙ between rs k b s h.1
 pub seq-row : (s : List ℕ) (at k : ℕ) → at < length s → Leads table k (get_or s at 0) → seq_len (drop at s) ≡ row_len table k (drop (at + 1) s)
 unfolding seq_len
 seq-row s at k h l = rw (add-one, drop-cons s at 0 h) (leads table k (get_or s at 0) (drop (suc at) s) l)
-
-pub seq-between : (s : List ℕ) (at k : ℕ) → at < length s → Between table k (get_or s at 0) → seq_len (drop at s) ≡ 0
-unfolding seq_len
-seq-between s at k h l = rw (drop-cons s at 0 h) (between table k (get_or s at 0) (drop (suc at) s) l)
 
 pub seq-ascii : (s : List ℕ) (at : ℕ) → at < length s → get_or s at 0 < 128 → seq_len (drop at s) ≡ 1
 unfolding table
@@ -165,49 +166,3 @@ seq-out s at h = rw (drop_of_length-le s h)
 
 pub seq-fits : (s : List ℕ) (at : ℕ) → seq_len (drop at s) ≤ length s - at
 seq-fits s at = omega (arith, seq_len-le (drop at s), length-drop at s)
-
--- a range at a place, and the ranges after it
-pub starts-in : (r : Range) (s : List ℕ) (at : ℕ) → at < length s → starts (r ∷ []) (drop at s) ≡ within r (get_or s at 0)
-starts-in r s at h = rw (drop-cons s at 0 h) (and-true _)
-
-pub starts-out : (r : Range) (s : List ℕ) (at : ℕ) → length s ≤ at → starts (r ∷ []) (drop at s) ≡ false
-starts-out r s at h = rw (drop_of_length-le s h)
-
-starts_first : (r : Range) (rs : List Range) (s : List ℕ) → starts (r ∷ rs) s ≡ (starts (r ∷ []) s && starts rs (drop 1 s))
-starts_first r rs [] = refl
-starts_first r rs (b ∷ s) = rw (and-true)
-
-pub starts-next : (r : Range) (rs : List Range) (s : List ℕ) (at : ℕ)
-    → starts (r ∷ rs) (drop at s) ≡ (starts (r ∷ []) (drop at s) && starts rs (drop (at + 1) s))
-starts-next r rs s at = starts_first r rs (drop at s) ∙ rw (drop-drop 1 at s)
-
--- what `seq_len` answers: by the row of the first byte, by none, past the end
-answer : (s : List ℕ) (at r : ℕ) → r ≡ seq_len (drop at s) → (r ≡ seq_len (drop at s)) × (r ≤ length s - at)
-answer s at r e = (e, omega (arith, seq-fits s at))
-
-pub by_row : (s : List ℕ) (at k r : ℕ) → at < length s → Leads table k (get_or s at 0) → r ≡ row_len table k (drop (at + 1) s)
-    → (r ≡ seq_len (drop at s)) × (r ≤ length s - at)
-by_row s at k r h l e = answer s at r (e ∙ sym (seq-row s at k h l))
-
-pub by-none : (s : List ℕ) (at k : ℕ) → at < length s → Between table k (get_or s at 0) → (0 ≡ seq_len (drop at s)) × (0 ≤ length s - at)
-by-none s at k h l = answer s at 0 (sym (seq-between s at k h l))
-
-pub by_end : (s : List ℕ) (at : ℕ) → length s ≤ at → (0 ≡ seq_len (drop at s)) × (0 ≤ length s - at)
-by_end s at h = answer s at 0 (sym (seq-out s at h))
-
--- what `is_in` answers
-pub in-range : (s : List ℕ) (at low high : ℕ) → at < length s → low ≤ get_or s at 0
-    → leb (get_or s at 0) high ≡ starts (low ‥ high ∷ []) (drop at s)
-in-range s at low high h g = sym (starts-in (low ‥ high) s at h ∙ rw (le-leb _ _ g))
-
-pub in-below : (s : List ℕ) (at low high : ℕ) → at < length s → get_or s at 0 < low → false ≡ starts (low ‥ high ∷ []) (drop at s)
-in-below s at low high h g = sym (starts-in (low ‥ high) s at h ∙ rw (lt-leb _ _ g))
-
--- what `two_in` and `three_in` answer: the first byte is in its range, and so are those after it; or it is not
-pub in-first : (r : Range) (rs : List Range) (s : List ℕ) (at : ℕ) (a x : Bool) → a ≡ starts (r ∷ []) (drop at s) → a ≡ true
-    → x ≡ starts rs (drop (at + 1) s) → x ≡ starts (r ∷ rs) (drop at s)
-in-first r rs s at a x e t f = f ∙ sym (starts-next r rs s at ∙ rw (← e, t))
-
-pub not_first : (r : Range) (rs : List Range) (s : List ℕ) (at : ℕ) (a : Bool) → a ≡ starts (r ∷ []) (drop at s) → a ≡ false
-    → false ≡ starts (r ∷ rs) (drop at s)
-not_first r rs s at a e t = sym (starts-next r rs s at ∙ rw (← e, t))

@@ -1,6 +1,6 @@
 -- Worked examples, by computing.
-use Rattle.std.specs.Prelude.{◌≡◌, refl, true, false, [], ◌∷◌}
-use Rattle.text.specs.Utf8.{table, seq_len, bits, scalar, scalars, is_scalar, encode, utf8}
+use Rattle.std.specs.Prelude.{◌≡◌, refl, true, false, Some, None, [], ◌∷◌}
+use Rattle.text.specs.Utf8.{table, seq_len, bits, scalar, char_at, found, scalars, is_scalar, encode, utf8}
 use Rattle.text.specs.Valid.{passing, valid_prefix}
 use Rattle.text.specs.Space.{spaces, white_space}
 
@@ -18,6 +18,13 @@ sequences = (refl, refl, refl, refl, refl, refl, refl)
 pub values : (scalar (0xE2 ∷ 0x82 ∷ 0xAC ∷ 0x61 ∷ []) ≡ 0x20AC) × (scalar (0xF0 ∷ 0x9F ∷ 0x98 ∷ 0x80 ∷ []) ≡ 0x1F600)
 unfolding seq_len table bits scalar
 values = (refl, refl)
+
+-- `a€`, at the second byte, within the €, and past the end
+pub characters : (found (char_at (0x61 ∷ 0xE2 ∷ 0x82 ∷ 0xAC ∷ []) 1) ≡ Some (record { code = 0x20AC; len = 3 }))
+    × (found (char_at (0x61 ∷ 0xE2 ∷ 0x82 ∷ 0xAC ∷ []) 2) ≡ None)
+    × (found (char_at (0x61 ∷ 0xE2 ∷ 0x82 ∷ 0xAC ∷ []) 4) ≡ None)
+unfolding seq_len table bits scalar
+characters = (refl, refl, refl)
 
 pub bytes : (utf8 0x20AC ≡ 0xE2 ∷ 0x82 ∷ 0xAC ∷ []) × (utf8 0x1F600 ≡ 0xF0 ∷ 0x9F ∷ 0x98 ∷ 0x80 ∷ []) × (utf8 0xD800 ≡ []) × (utf8 0x110000 ≡ [])
 unfolding utf8 encode is_scalar scalars

@@ -2,6 +2,5 @@
 pub mod Ranges
 pub mod Utf8
 pub mod Valid
-pub mod Along
 pub mod Space
 pub mod Examples

@@ -9,6 +9,10 @@ pub record Range : Type 0 where
 abbrev pub ◌‥◌ : ℕ → ℕ → Range
 a ‥ b = record { from = a; to = b }
 
+-- a range by its two ends
+abbrev pub range_of : ℕ × ℕ → Range
+range_of r = r.0 ‥ r.1
+
 abbrev pub within : Range → ℕ → Bool
 within r n = leb r.from n && leb n r.to
 

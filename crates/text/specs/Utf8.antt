@@ -1,6 +1,6 @@
 -- UTF-8: the well-formed byte sequences, the character that one stands for, and the bytes of a character.
 -- Numbers and names are those of the Unicode Standard, chapter 3.
-use Rattle.std.specs.Prelude.{ℕ, zero, suc, ◌+◌, ◌*◌, ◌/◌, ◌%◌, Bool, cond, List, [], ◌∷◌, length, get_or, drop, ltb}
+use Rattle.std.specs.Prelude.{ℕ, zero, suc, ◌+◌, ◌*◌, ◌/◌, ◌%◌, Bool, cond, Option, Some, None, List, [], ◌∷◌, length, get_or, drop, ltb}
 use Rattle.text.specs.Ranges.{Range, ◌‥◌, within, among, starts}
 use Rattle.text.specs.declared.Char.{Char}
 
@@ -35,6 +35,15 @@ unfoldable pub seq_len : List ℕ → ℕ
 seq_len [] = 0
 seq_len (b ∷ s) = len_in table b s
 
+-- a value that comes with a length: none where the length is 0
+abbrev pub if_any : {A : Type 0} → ℕ → A → Option A
+if_any zero a = None
+if_any (suc n) a = Some a
+
+-- that length itself, 1 to 4, or none
+abbrev pub some_len : ℕ → Option ℕ
+some_len n = if_any n n
+
 -- "Table 3-6. UTF-8 Bit Distribution": 0xxxxxxx; 110yyyyy 10xxxxxx; 1110zzzz 10yyyyyy 10xxxxxx; 11110uuu 10uuzzzz 10yyyyyy 10xxxxxx
 unfoldable pub bits : ℕ → List ℕ → ℕ
 bits zero s = 0
@@ -50,6 +59,10 @@ scalar s = bits (seq_len s) s
 -- the character at a place: its code point and its length, both 0 where no well-formed sequence starts there
 abbrev pub char_at : List ℕ → ℕ → Char
 char_at s at = record { code = scalar (drop at s); len = seq_len (drop at s) }
+
+-- that character, or none
+abbrev pub found : Char → Option Char
+found c = if_any c.len c
 
 -- "D76 Unicode scalar value: Any Unicode code point except high-surrogate and low-surrogate code points.": 0 to D7FF and E000 to 10FFFF
 unfoldable pub scalars : List Range

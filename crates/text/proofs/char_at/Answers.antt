@@ -1,20 +1,14 @@
--- `text::char_at` meets its contract: a law for each length of a sequence; a sequence that is there lies within the list.
+-- `text::char_at` meets its contract: what stands from the place on begins with a sequence and its bits, or with none.
 -- Assumes nothing.
-use native.Mathlib.Omega.{arith}
-use Rattle.text.proofs.Chars.{char-one, char-two, char-three, char-four, char-none}
+use Rattle.std.proofs.Common.{◌∙◌}
+use Rattle.text.proofs.Chars.{len-fits, char-found, char-past}
 use Rattle.text.proofs.char_at.Goals as goal
 
-pub returns-in-1 : goal.returns-in-1
-returns-in-1 c = let a = c.args in char-one a.s.now a.at _ _ c.seq_len-n.ensures.0 c.in-1.is c.bits.ensures.0
+pub returns-in_err-rest : goal.returns-in_err-rest
+returns-in_err-rest c = let a = c.args in c.from_residual.ensures ∙ char-past a.s.now a.at c.in_err-rest.ensures.lookup.0
 
-pub returns-in-2 : goal.returns-in-2
-returns-in-2 c = let a = c.args in char-two a.s.now a.at _ _ _ c.seq_len-n.ensures.0 c.in-2.is c.bits-in-2.ensures.0 c.bits-in-2-2.ensures.0
+pub slice_bounds-code_point-end : goal.slice_bounds-code_point-end
+slice_bounds-code_point-end c = len-fits _ _ c.in_ok-len.ensures
 
-pub returns-in-3 : goal.returns-in-3
-returns-in-3 c = let a = c.args in char-three a.s.now a.at _ _ _ _ c.seq_len-n.ensures.0 c.in-3.is c.bits-in-3.ensures.0 c.bits-in-3-2.ensures.0 c.bits-in-3-3.ensures.0
-
-pub returns-in-4 : goal.returns-in-4
-returns-in-4 c = let a = c.args in char-four a.s.now a.at _ _ _ _ _ c.seq_len-n.ensures.0 c.in-4.is c.bits-in-4.ensures.0 c.bits-in-4-2.ensures.0 c.bits-in-4-3.ensures.0 c.bits-in-4-4.ensures.0
-
-pub returns-in_default : goal.returns-in_default
-returns-in_default c = let a = c.args in char-none a.s.now a.at _ c.seq_len-n.ensures.0 (λ e. omega arith) (λ e. omega arith) (λ e. omega arith) (λ e. omega arith)
+pub returns : goal.returns
+returns c = let a = c.args in char-found a.s.now _ a.at _ _ c.in_ok-rest.ensures.lookup.0.2 c.in_ok-len.ensures c.code_point.ensures

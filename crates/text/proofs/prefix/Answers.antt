@@ -1,16 +1,11 @@
--- `text::prefix` meets its contract: the valid bytes end at the same place, seen from the start and from `i`.
+-- `text::prefix` meets its contract: what std calls UTF-8 is valid, and the longest front of it is.
 -- Assumes nothing.
-use Rattle.text.proofs.Longest.{along-along, along-stop, along-end, along-more}
+use Rattle.std.proofs.Common.{◌∙◌}
+use Rattle.text.proofs.Library.{all-valid, up-to}
 use Rattle.text.proofs.prefix.Goals as goal
 
-pub loop-i-init : goal.loop-i-init
-loop-i-init c = along-along _ _ _ _ c.skip.ensures c.ascii-i.ensures
+pub returns-in-Ok : goal.returns-in-Ok
+returns-in-Ok c = let e = c.in-Ok.ensures.cases in all-valid _ _ e.0 e.1
 
-pub returns-then-n-eq0 : goal.returns-then-n-eq0
-returns-then-n-eq0 c = along-stop _ _ _ c.loop-i.invariant c.seq_len-n.ensures.0 c.if-n-eq0.true
-
-pub loop-i-preserved : goal.loop-i-preserved
-loop-i-preserved c = along-more _ _ _ _ _ c.loop-i.invariant c.seq_len-n.ensures.0 c.if-n-eq0.false c.ascii-i-in-loop-i.ensures
-
-pub returns : goal.returns
-returns c = along-end _ _ c.loop-i.invariant c.loop-i-test.false
+pub returns-in-Err : goal.returns-in-Err
+returns-in-Err c = c.valid_up_to.ensures ∙ up-to _ _ c.in-Err.ensures.cases.1
