@@ -1,7 +1,7 @@
 #!/usr/bin/env python3
 """The tree form's tables, made from the list below, which is TREE.md's table line by line.
 
-Run from the repository's root, then `rt fmt`. Writes crates/tree/specs/Table.antt and the table of
+Run from the repository's root, then `rt fmt`. Writes crates/tree/specs/Table.antt and the three tables of
 crates/tree/src/table.rt: the tables stand twice, in the definitions and in the code, and the code's proofs show them
 equal. Also writes crates/tree/proofs/Steps.antt, the regular clauses that say of each tag which part of a tree its
 field is: there each row stands once more, written out, and the prover compares it with the table. And, in
@@ -105,7 +105,7 @@ def listed(xs):
 def write_spec(classes, shapes, items):
     with open('crates/tree/specs/Table.antt', 'w') as f:
         f.write(f'''-- The tables of the tree form, made by tools/tree_table.py from TREE.md's table. Assumes nothing.
-use Rattle.std.specs.Prelude.{{ℕ, List, [], ◌∷◌, ◌++◌}}
+use Rattle.std.specs.Prelude.{{ℕ, List, [], ◌∷◌}}
 
 -- of each byte that is a tag its class, {NONE} for any other. The classes are, from 1 on:
 -- {' '.join(CLASSES)}
@@ -121,18 +121,14 @@ shapes = {listed(shapes)}
 -- terms; and 4 more if the row may end before it. Row 0 is that of the bytes themselves, one tree; the last item, 0, is where no row goes on
 unfoldable pub items : List ℕ
 items = {listed(items)}
-
--- the three in one, as the code has them
-unfoldable pub table : List ℕ
-table = classes ++ shapes ++ items
 ''')
 
 
 def write_code(classes, shapes, items):
     path = 'crates/tree/src/table.rt'
     text = open(path).read()
-    xs = classes + shapes + items
-    text = re.sub(r'const TABLE: \[u8; \d+\] = \[[^\]]*\];', f'const TABLE: [u8; {len(xs)}] = [{", ".join(map(str, xs))}];', text)
+    for name, xs in (('CLASSES', classes), ('SHAPES', shapes), ('ITEMS', items)):
+        text = re.sub(rf'static {name}: \[u8; \d+\] = \[[^\]]*\];', f'static {name}: [u8; {len(xs)}] = [{", ".join(map(str, xs))}];', text)
     open(path, 'w').write(text)
 
 

@@ -5,10 +5,10 @@ use native.Mathlib.Numerals.{add-one}
 use mathlib.Core.Path.{◌≡◌, refl, sym, ap, ap₂, subst, ◌∙◌}
 use mathlib.Core.List.{List, [], ◌∷◌}
 use mathlib.Core.Bool.{Bool, true, false, cond}
-use lib.Dec.{leb}
+use lib.Dec.{eqb, leb}
 use lib.ListN.{length, get_or, set}
 use lib.Seq.{get_or-set_same, get_or-set_other}
-use borrow.Author.Tests.{le-leb, lt-leb, leb-true, leb-false}
+use borrow.Author.Tests.{le-leb, lt-leb, leb-true, leb-false, eqb-true, eqb-false}
 use Rattle.tree.specs.Rose.{end_of}
 use Rattle.tree.specs.Leaf.{is_leaf_tag, shape}
 use Rattle.tree.specs.Tree.{Tree}
@@ -16,6 +16,9 @@ use Rattle.tree.specs.Form.{At}
 use Rattle.tree.specs.Scan.{All, over, here, next_of}
 use Rattle.tree.specs.Nest.{counts, mark, pop, pushed, Shallow, stack_of}
 use Rattle.tree.specs.Nest as nest
+use Rattle.tree.specs.Shapes.{IsShape, is_row}
+use Rattle.tree.specs.declared.table.Shape.{Shape}
+use Rattle.tree.proofs.Headers.{row-leaf}
 use Rattle.tree.proofs.Match.{not-both}
 use Rattle.tree.specs.Wf.{Wf}
 use Rattle.tree.proofs.Wf.{tree_of, wf_of}
@@ -36,9 +39,9 @@ pub pop-more : (a : List ℕ) (i p : ℕ) → 0 < i → get_or a (i - 1) 0 ≤ p
 pop-more a i p h l =
     sym (ap (pop p) (stack-pred a i h) ∙ ap (λ (x : Bool). cond x (pop p (stack_of a (i - 1))) (get_or a (i - 1) 0 ∷ stack_of a (i - 1))) (le-leb (get_or a (i - 1) 0) p l))
 
-pub pop-none : (a : List ℕ) (i p : ℕ) → i ≤ 0 → stack_of a 0 ≡ pop p (stack_of a i)
+pub pop-none : (a : List ℕ) (i p : ℕ) → i ≤ 0 → stack_of a i ≡ pop p (stack_of a i)
 unfolding stack_of
-pop-none a i p h = let q : i ≡ 0 = omega arith in sym (ap (λ (j : ℕ). pop p (stack_of a j)) q)
+pop-none a i p h = let q : i ≡ 0 = omega arith in rw q refl
 
 stack_set : (a : List ℕ) (j x d : ℕ) → d ≤ j → stack_of (set a j x) d ≡ stack_of a d
 unfolding stack_of
@@ -54,20 +57,32 @@ unfolding stack_of
 stack-length a zero = refl
 stack-length a (suc d) = ap suc (stack-length a d)
 
-pub next-leaf : (b : List ℕ) (p e s : ℕ) → e ≡ end_of b p → s ≡ shape (get_or b p 0) → 200 ≤ s → e ≡ next_of (is_leaf_tag (get_or b p 0)) b p
-next-leaf b p e s u k l = u ∙ sym (ap (λ (x : Bool). next_of x b p) (ap (leb 200) (sym k) ∙ le-leb 200 s l))
+pub room : (a st : List ℕ) (n d : ℕ) → stack_of a d ≡ st → length st < n → d < n
+room a st n d e h = let l : length st ≡ d = sym (ap length e) ∙ stack-length a d in omega arith
 
-pub next_row : (b : List ℕ) (p s : ℕ) → s ≡ shape (get_or b p 0) → s < 200 → p + 3 ≡ next_of (is_leaf_tag (get_or b p 0)) b p
-next_row b p s k l = sym (ap (λ (x : Bool). next_of x b p) (ap (leb 200) (sym k) ∙ lt-leb 200 s l))
+pub full-stack : (a : List ℕ) (n d : ℕ) (st : List ℕ) → stack_of a d ≡ st → d ≤ n → eqb d n ≡ leb n (length st)
+full-stack a n d st e h = go (eqb d n) refl
+  where
+    l : length st ≡ d
+    l = sym (ap length e) ∙ stack-length a d
+
+    go : (x : Bool) → eqb d n ≡ x → eqb d n ≡ leb n (length st)
+    go true q = let m : n ≤ length st = omega (arith, eqb-true d n q, l) in q ∙ sym (le-leb n (length st) m)
+    go false q = let f : d ≡ n → ⊥ = eqb-false d n q in let m : length st < n = omega (arith, l) in q ∙ sym (lt-leb n (length st) m)
+
+-- the header after one of this shape
+pub next_by : (b : List ℕ) (p r : ℕ) (s : Shape) → IsShape s (shape (get_or b p 0)) → (x : Bool) → is_row s ≡ x → r ≡ cond x (p + 3) (end_of b p) → r ≡ next_of (is_leaf_tag (get_or b p 0)) b p
+next_by b p r s k true e q = q ∙ ap (λ (y : Bool). next_of y b p) (sym (row-leaf s (get_or b p 0) k true e))
+next_by b p r s k false e q = q ∙ ap (λ (y : Bool). next_of y b p) (sym (row-leaf s (get_or b p 0) k false e))
 
 -- ---- the loop
 
-pub record Walking (b : List ℕ) (o n p d : ℕ) (a : List ℕ) : Type 0 where
+-- what is left stays within n, with these ends open, exactly if the whole does
+pub record Walking (b : List ℕ) (o n p : ℕ) (st : List ℕ) : Type 0 where
   pub all : All b p
-  pub few : d ≤ n
-  pub room : n ≤ length a
-  pub yes : Shallow b o n (stack_of a d) p → Shallow b o n [] 0
-  pub no : Shallow b o n [] 0 → Shallow b o n (stack_of a d) p
+  pub few : length st ≤ n
+  pub yes : Shallow b o n st p → Shallow b o n [] 0
+  pub no : Shallow b o n [] 0 → Shallow b o n st p
 
 pub all-fits : (b : List ℕ) (p : ℕ) → All b p → p < length b → end_of b p ≤ length b
 all-fits b p (over q) h = absurd (omega arith)
@@ -85,35 +100,51 @@ shallow-next : (b : List ℕ) (o n : ℕ) (st : List ℕ) (p : ℕ) → p < leng
 shallow-next b o n st p h (nest.over q) = absurd (omega arith)
 shallow-next b o n st p h (nest.here l m s) = s
 
-pub walk_start : (b : List ℕ) (o n : ℕ) (a : List ℕ) → Wf b → n ≤ length a → Walking b o n 0 0 a
-unfolding stack_of
-walk_start b o n a w r = record { all = w.all; few = omega arith; room = r; yes = λ s. s; no = λ s. s }
+pub walk_start : (b : List ℕ) (o n : ℕ) → Wf b → Walking b o n 0 []
+walk_start b o n w = record { all = w.all; few = omega arith; yes = λ s. s; no = λ s. s }
 
-module _ (b : List ℕ) (o n p d : ℕ) (a : List ℕ) (w : Walking b o n p d a) (h : p < length b) (d₁ : ℕ) (q : stack_of a d₁ ≡ pop p (stack_of a d)) (on : Bool) (c : on ≡ counts o (get_or b p 0)) where
-  count : mark (counts o (get_or b p 0)) + length (pop p (stack_of a d)) ≡ d₁ + mark on
-  count =
+pop-few : (p : ℕ) (st : List ℕ) → length (pop p st) ≤ length st
+pop-few p [] = omega arith
+pop-few p (e ∷ st) = shorter p e st (pop-few p st) (leb e p)
+  where
+    shorter : (p e : ℕ) (st : List ℕ) → length (pop p st) ≤ length st → (x : Bool) → length (cond x (pop p st) (e ∷ st)) ≤ suc (length st)
+    shorter p e st h true = omega arith
+    shorter p e st h false = omega arith
+
+module _ (b : List ℕ) (o n p : ℕ) (st : List ℕ) (w : Walking b o n p st) (h : p < length b) (on : Bool) (c : on ≡ counts o (get_or b p 0)) where
+  -- one that counts, and no room for it
+  pub walk-deep : on ≡ true → n ≤ length (pop p st) → Shallow b o n [] 0 → ⊥
+  walk-deep t l s =
+      let x : mark (counts o (get_or b p 0)) ≡ 1 = ap mark (sym c ∙ t) in
+      let m = shallow-few b o n st p h (w.no s) in omega arith
+
+  walk-next : mark on + length (pop p st) ≤ n → (r : ℕ) → r ≡ next_of (is_leaf_tag (get_or b p 0)) b p → (st₂ : List ℕ) → st₂ ≡ pushed on (end_of b p) (pop p st) → length st₂ ≤ n → Walking b o n r st₂
+  walk-next l r z st₂ e m =
+      let g : st₂ ≡ pushed (counts o (get_or b p 0)) (end_of b p) (pop p st) = e ∙ ap (λ (k : Bool). pushed k (end_of b p) (pop p st)) c in
       let x : mark (counts o (get_or b p 0)) ≡ mark on = ap mark (sym c) in
-      let y : length (pop p (stack_of a d)) ≡ d₁ = sym (ap length q) ∙ stack-length a d₁ in
-      omega arith
-
-  pub walk-deep : n < d₁ + mark on → Shallow b o n [] 0 → ⊥
-  walk-deep l s = let m = shallow-few b o n (stack_of a d) p h (w.no s) in omega (arith, count, m)
-
-  pub walk-next : d₁ + mark on ≤ n → (a₂ : List ℕ) (d₂ e p₂ : ℕ) → e ≡ end_of b p → d₂ ≡ d₁ + mark on → stack_of a₂ d₂ ≡ pushed on e (stack_of a d₁) → length a₂ ≡ length a
-      → p₂ ≡ next_of (is_leaf_tag (get_or b p 0)) b p → Walking b o n p₂ d₂ a₂
-  walk-next l a₂ d₂ e p₂ u v x y z =
-      let g : stack_of a₂ d₂ ≡ pushed (counts o (get_or b p 0)) (end_of b p) (pop p (stack_of a d)) =
-      x ∙ ap (λ (k : Bool). pushed k e (stack_of a d₁)) c ∙ ap₂ (pushed (counts o (get_or b p 0))) u q in
       record {
         all = subst (All b) (sym z) (all-next b p w.all h);
-        few = omega arith;
-        room = omega (arith, w.room);
-        yes = λ s. w.yes (nest.here h (omega (arith, count)) (subst (λ (k : List ℕ). Shallow b o n k (next_of (is_leaf_tag (get_or b p 0)) b p)) g (subst (Shallow b o n (stack_of a₂ d₂)) z s)));
-        no = λ s. subst (Shallow b o n (stack_of a₂ d₂)) (sym z) (subst (λ (k : List ℕ). Shallow b o n k (next_of (is_leaf_tag (get_or b p 0)) b p)) (sym g) (shallow-next b o n (stack_of a d) p h (w.no s)));
+        few = m;
+        yes = λ s. w.yes (nest.here h (omega arith) (subst (λ (k : List ℕ). Shallow b o n k (next_of (is_leaf_tag (get_or b p 0)) b p)) g (subst (Shallow b o n st₂) z s)));
+        no = λ s. subst (Shallow b o n st₂) (sym z) (subst (λ (k : List ℕ). Shallow b o n k (next_of (is_leaf_tag (get_or b p 0)) b p)) (sym g) (shallow-next b o n st p h (w.no s)));
       }
 
-pub walk_end : (b : List ℕ) (o n p d : ℕ) (a : List ℕ) → Walking b o n p d a → length b ≤ p → Shallow b o n [] 0
-walk_end b o n p d a w h = w.yes (nest.over h)
+  -- to the next header, with its end kept or not
+  pub walk-push : on ≡ true → length (pop p st) < n → (r : ℕ) → r ≡ next_of (is_leaf_tag (get_or b p 0)) b p → (st₂ : List ℕ) → st₂ ≡ end_of b p ∷ pop p st → Walking b o n r st₂
+  walk-push t l r z st₂ e =
+      let m : mark on ≡ 1 = ap mark t in
+      let k : length st₂ ≡ suc (length (pop p st)) = ap length e in
+      walk-next (omega arith) r z st₂ (e ∙ ap (λ (x : Bool). pushed x (end_of b p) (pop p st)) (sym t)) (omega arith)
+
+  pub walk-leave : on ≡ false → (r : ℕ) → r ≡ next_of (is_leaf_tag (get_or b p 0)) b p → (st₂ : List ℕ) → st₂ ≡ pop p st → Walking b o n r st₂
+  walk-leave t r z st₂ e =
+      let m : mark on ≡ 0 = ap mark t in
+      let k : length st₂ ≡ length (pop p st) = ap length e in
+      let f : length (pop p st) ≤ n = omega (arith, pop-few p st, w.few) in
+      walk-next (omega arith) r z st₂ (e ∙ ap (λ (x : Bool). pushed x (end_of b p) (pop p st)) (sym t)) (omega arith)
+
+pub walk_end : (b : List ℕ) (o n p : ℕ) (st : List ℕ) → Walking b o n p st → length b ≤ p → Shallow b o n [] 0
+walk_end b o n p st w h = w.yes (nest.over h)
 
 -- ---- the verdict
 
@@ -123,17 +154,6 @@ above m k g = go (leb m k) refl
     go : (x : Bool) → leb m k ≡ x → k < m
     go true e = absurd (g (leb-true m k e))
     go false e = leb-false m k e
-
-pub keep-yes : (a : List ℕ) (d e : ℕ) (on : Bool) → on ≡ true → d < length a → (d + 1 ≡ d + mark on) × (stack_of (set a d e) (d + 1) ≡ pushed on e (stack_of a d))
-keep-yes a d e true q h = (refl, stack-put a d e h)
-keep-yes a d e false q h = not-both false q refl
-
-pub keep-no : (a : List ℕ) (d e : ℕ) (on : Bool) → on ≡ false → (d ≡ d + mark on) × (stack_of a d ≡ pushed on e (stack_of a d))
-keep-no a d e true q = not-both true refl q
-keep-no a d e false q = (omega arith, refl)
-
-pub mark-one : (on : Bool) → on ≡ true → mark on ≡ 1
-mark-one on q = ap mark q
 
 next_more : (b : List ℕ) (p : ℕ) (x : Bool) → p < next_of x b p
 next_more b p true = omega arith

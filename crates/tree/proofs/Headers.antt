@@ -4,7 +4,7 @@ use Prim.Native.Nat.{ℕ, ◌+◌, ◌-◌, ◌*◌, ◌≤◌, ◌<◌}
 use native.Mathlib.Omega.{arith}
 use mathlib.Core.Path.{◌≡◌, refl, sym, ap, ap₂, subst, ◌∙◌}
 use mathlib.Core.List.{List}
-use mathlib.Core.Bool.{Bool, true, false}
+use mathlib.Core.Bool.{Bool, true, false, not}
 use lib.Dec.{leb}
 use lib.ListN.{length, get_or, take, drop}
 use borrow.Author.Tests.{le-leb, lt-leb}
@@ -14,7 +14,11 @@ use Rattle.tree.specs.Rose.{end_of, text_of}
 use Rattle.tree.specs.Scan.{Local, done, step, All, over, here, Inner, next_of}
 use Rattle.tree.proofs.Match.{not-both}
 use Rattle.tree.specs.Wf.{Wf, Decided}
+use Rattle.std.specs.Bool.{then_some}
 use Rattle.tree.specs.Formed.{Stepped}
+use Rattle.tree.specs.Shapes.{IsShape, is_row}
+use Rattle.tree.specs.declared.table.Shape.{Shape}
+use Rattle.tree.specs.declared.table.Shape.TheVariants.{Row, Bytes}
 use Rattle.tree.proofs.Leaves.{part}
 
 -- ---- a row of headers
@@ -93,12 +97,6 @@ pub going_start : (b : List ℕ) → Local b (length b) (row_at 0) 0 → Going b
 going_start b r = record { high = omega arith; root = r; yes = λ a. a; no = λ a. a }
 
 -- the content of the field at p, a leaf's or a row
-stepped-yes : (b : List ℕ) (p n : ℕ) → 0 < n → Inner (is_leaf_tag (get_or b p 0)) b p → n ≡ next_of (is_leaf_tag (get_or b p 0)) b p → Stepped b p n
-stepped-yes b p n h i u = record { wrong = λ z. absurd (omega arith); right = λ z. (i, u) }
-
-stepped-no : (b : List ℕ) (p : ℕ) → (Inner (is_leaf_tag (get_or b p 0)) b p → ⊥) → Stepped b p 0
-stepped-no b p f = record { wrong = λ z. f; right = λ z. absurd (z refl) }
-
 module _ (b : List ℕ) (p e s : ℕ) (u : e ≡ end_of b p) (k : s ≡ shape (get_or b p 0)) where
   module _ (l : 200 ≤ s) where
     is_leaf : is_leaf_tag (get_or b p 0) ≡ true
@@ -109,26 +107,26 @@ module _ (b : List ℕ) (p e s : ℕ) (u : e ≡ end_of b p) (k : s ≡ shape (g
         let z : e - (p + 3) ≡ get_or b (p + 1) 0 + get_or b (p + 2) 0 * 256 = omega arith in
         ap₂ leaf_ok k (ap (λ (n : ℕ). take n (drop (p + 3) b)) z)
 
-    pub leaf-right : true ≡ leaf_ok s (part b (p + 3) e) → Stepped b p e
-    leaf-right t =
-        stepped-yes b p e (omega arith) (subst (λ (y : Bool). Inner y b p) (sym is_leaf) (sym (t ∙ same-leaf))) (u ∙ ap (λ (y : Bool). next_of y b p) (sym is_leaf))
-
-    pub leaf-wrong : false ≡ leaf_ok s (part b (p + 3) e) → Stepped b p 0
-    leaf-wrong t = stepped-no b p (λ i. not-both (leaf_ok (shape (get_or b p 0)) (text_of b p)) (subst (λ (y : Bool). Inner y b p) is_leaf i) (sym (t ∙ same-leaf)))
+    pub leaf-said : (r : Bool) → r ≡ leaf_ok s (part b (p + 3) e) → Stepped b p (then_some r e)
+    leaf-said true t = (subst (λ (y : Bool). Inner y b p) (sym is_leaf) (sym (t ∙ same-leaf)), u ∙ ap (λ (y : Bool). next_of y b p) (sym is_leaf))
+    leaf-said false t = λ i. not-both (leaf_ok (shape (get_or b p 0)) (text_of b p)) (subst (λ (y : Bool). Inner y b p) is_leaf i) (sym (t ∙ same-leaf))
 
   module _ (l : s < 200) where
     is-node : is_leaf_tag (get_or b p 0) ≡ false
     is-node = ap (leb 200) (sym k) ∙ lt-leb 200 s l
 
-    pub row-right : Local b e (row_at s) (p + 3) → Stepped b p (p + 3)
-    row-right r =
-        stepped-yes b p (p + 3) (omega arith)
-        (subst (λ (y : Bool). Inner y b p) (sym is-node) (subst (λ (j : ℕ). Local b (end_of b p) (row_at j) (p + 3)) k (subst (λ (j : ℕ). Local b j (row_at s) (p + 3)) u r)))
-        (ap (λ (y : Bool). next_of y b p) (sym is-node))
+    pub row-said : (r : Bool) → Decided r (Local b e (row_at s) (p + 3)) → Stepped b p (then_some r (p + 3))
+    row-said true r = (
+      subst (λ (y : Bool). Inner y b p) (sym is-node) (subst (λ (j : ℕ). Local b (end_of b p) (row_at j) (p + 3)) k (subst (λ (j : ℕ). Local b j (row_at s) (p + 3)) u r)),
+      ap (λ (y : Bool). next_of y b p) (sym is-node),
+    )
+    row-said false f = λ i.
+        f (subst (λ (j : ℕ). Local b j (row_at s) (p + 3)) (sym u) (subst (λ (j : ℕ). Local b (end_of b p) (row_at j) (p + 3)) (sym k) (subst (λ (y : Bool). Inner y b p) is-node i)))
 
-    pub row-wrong : (Local b e (row_at s) (p + 3) → ⊥) → Stepped b p 0
-    row-wrong f = stepped-no b p (λ i.
-        f (subst (λ (j : ℕ). Local b j (row_at s) (p + 3)) (sym u) (subst (λ (j : ℕ). Local b (end_of b p) (row_at j) (p + 3)) (sym k) (subst (λ (y : Bool). Inner y b p) is-node i))))
+-- a row is no leaf
+pub row-leaf : (s : Shape) (k : ℕ) → IsShape s (shape k) → (x : Bool) → is_row s ≡ x → is_leaf_tag k ≡ not x
+row-leaf (Row i) k h x e = let l : shape k < 200 = omega (arith, h.1, h.0) in lt-leb 200 (shape k) l ∙ ap not e
+row-leaf (Bytes l) k h x e = le-leb 200 (shape k) h.1 ∙ ap not e
 
 next_fits : (b : List ℕ) (p : ℕ) (x : Bool) → end_of b p ≤ length b → next_of x b p ≤ length b
 next_fits b p true m = m

@@ -1,20 +1,19 @@
 -- The contents of leaves, as the code reads them. Assumes nothing.
-use Prim.Native.Nat.{ℕ, suc, ◌+◌, ◌-◌, ◌*◌, ◌≤◌, ◌<◌}
+use Prim.Native.Nat.{ℕ, zero, suc, ◌+◌, ◌-◌, ◌≤◌, ◌<◌}
 use native.Mathlib.Omega.{arith}
-use native.Mathlib.Numerals.{add-one}
-use mathlib.Core.Path.{◌≡◌, sym, ap, ap₂, ◌∙◌}
+use mathlib.Core.Path.{◌≡◌, refl, sym, ap, ◌∙◌}
 use mathlib.Core.List.{List, [], ◌∷◌}
-use mathlib.Core.Bool.{Bool, true, false, cond}
-use lib.Dec.{eqb, ltb, eqb-suc-suc}
-use lib.ListN.{length, get_or, take, drop, length-take, length-drop}
-use lib.Seq.{drop-cons}
-use borrow.Author.Tests.{eq-eqb, ne_eqb, lt-ltb, le-ltb}
+use mathlib.Core.Bool.{Bool, true, false, ◌&&◌}
+use lib.Dec.{eqb, T, eqb-suc-suc}
+use lib.ListN.{length, get_or, take, drop}
+use borrow.Author.Tests.{eq-eqb, ne_eqb, eqb-true, eqb-false}
+use Rattle.std.specs.Int.{w32, from_le_bytes}
+use Rattle.std.specs.List.{AllWithin, starts_with}
 use Rattle.fields.specs.Number.{value}
 use Rattle.text.specs.Utf8.{is_scalar}
 use Rattle.text.specs.Valid.{valid_prefix, passing}
 use Rattle.text.proofs.Longest.{prefix-cons}
-use Rattle.tree.specs.Every.{at}
-use Rattle.tree.specs.Table.{classes}
+use Rattle.tree.specs.Every.{parts}
 use Rattle.tree.specs.Tree.{operator_of}
 use Rattle.tree.proofs.Rows.{same, same-eq}
 use Rattle.tree.specs.Leaf.{leaf_ok, text, dollar, both, is_operator}
@@ -23,60 +22,56 @@ use Rattle.tree.specs.Leaf.{leaf_ok, text, dollar, both, is_operator}
 abbrev pub part : List ℕ → ℕ → ℕ → List ℕ
 part b p e = take (e - p) (drop p b)
 
-part-cons : (b : List ℕ) (i e : ℕ) → i < e → e ≤ length b → part b i e ≡ get_or b i 0 ∷ part b (i + 1) e
-part-cons b i e h k =
-    let q : e - i ≡ suc (e - (i + 1)) = omega arith in
-    let l : i < length b = omega arith in
-    ap₂ take q (drop-cons b i 0 l) ∙ ap (λ (n : ℕ). get_or b i 0 ∷ take (e - (i + 1)) (drop n b)) (sym (add-one i))
-
-part_none : (b : List ℕ) (i e : ℕ) → e ≤ i → part b i e ≡ []
-part_none b i e h = let q : e - i ≡ 0 = omega arith in rw q
-
-part_length : (b : List ℕ) (p e : ℕ) → p ≤ e → e ≤ length b → length (part b p e) ≡ e - p
-part_length b p e h k = simp (length-take, length-drop) (omega arith)
-
 -- ---- texts
 
 text-ascii : (x : ℕ) (xs : List ℕ) → x < 128 → text xs ≡ text (x ∷ xs)
 unfolding text
 text-ascii x xs h = sym (ap (λ (n : ℕ). eqb n (suc (length xs))) (prefix-cons x xs h) ∙ eqb-suc-suc (valid_prefix xs) (length xs))
 
-pub text-next : (b : List ℕ) (i e : ℕ) → i < e → e ≤ length b → get_or b i 0 < 128 → text (part b (i + 1) e) ≡ text (part b i e)
-text-next b i e h k l = text-ascii (get_or b i 0) (part b (i + 1) e) l ∙ ap text (sym (part-cons b i e h k))
-
-pub text-done : (b : List ℕ) (i e : ℕ) → e ≤ i → true ≡ text (part b i e)
+-- ASCII alone is a text
+pub ascii-text : (x : List ℕ) → AllWithin (λ k. k < 128) x 0 (length x) → true ≡ text x
 unfolding text valid_prefix passing
-text-done b i e h = sym (ap text (part_none b i e h))
+ascii-text [] h = refl
+ascii-text (y ∷ ys) h = ascii-text ys (λ k d l m. h (suc k) d (omega arith) (omega arith)) ∙ text-ascii y ys (h 0 y (omega arith) (omega arith))
 
-pub text-whole : (b : List ℕ) (p e n : ℕ) → p ≤ e → e ≤ length b → n ≡ valid_prefix (part b p e) → eqb n (e - p) ≡ text (part b p e)
+pub text-whole : (x : List ℕ) (n : ℕ) → n ≡ valid_prefix x → eqb n (length x) ≡ text x
 unfolding text
-text-whole b p e n h k q = ap₂ eqb q (sym (part_length b p e h k))
+text-whole x n q = ap (λ (j : ℕ). eqb j (length x)) q
 
 -- ---- each kind of leaf
 
-pub leaf-text : (s : ℕ) (x : List ℕ) → s ≡ 201 → text x ≡ leaf_ok s x
+pub leaf-text : (x : List ℕ) → text x ≡ leaf_ok 201 x
 unfolding leaf_ok
-leaf-text s x q = simp (eq-eqb s 201 q)
+leaf-text x = refl
 
-leaf-dollar : (s : ℕ) (x : List ℕ) → s ≡ 202 → both (dollar x) (text x) ≡ leaf_ok s x
+pub leaf-dollar : (x : List ℕ) → both (dollar x) (text x) ≡ leaf_ok 202 x
 unfolding leaf_ok
-leaf-dollar s x q = rw q
+leaf-dollar x = refl
 
-pub leaf-two : (b : List ℕ) (p e s : ℕ) → s ≡ 203 → p ≤ e → e ≤ length b → eqb (e - p) 2 ≡ leaf_ok s (part b p e)
+pub leaf-two : (x : List ℕ) → eqb (length x) 2 ≡ leaf_ok 203 x
 unfolding leaf_ok
-leaf-two b p e s q h k = rw (q, part_length b p e h k)
+leaf-two x = refl
 
-leaf-operator : (s : ℕ) (x : List ℕ) → s ≡ 204 → both (eqb (length x) 1) (is_operator (get_or x 0 0)) ≡ leaf_ok s x
+pub leaf-operator : (x : List ℕ) → both (eqb (length x) 1) (is_operator (get_or x 0 0)) ≡ leaf_ok 204 x
 unfolding leaf_ok
-leaf-operator s x q = rw q
+leaf-operator x = refl
 
-leaf-scalar : (s : ℕ) (x : List ℕ) → s ≡ 205 → both (eqb (length x) 4) (is_scalar (value x)) ≡ leaf_ok s x
+pub leaf-scalar : (x : List ℕ) → both (eqb (length x) 4) (is_scalar (value x)) ≡ leaf_ok 205 x
 unfolding leaf_ok
-leaf-scalar s x q = rw q
+leaf-scalar x = refl
 
-pub leaf-no : (s : ℕ) (x : List ℕ) → (s ≡ 201 → ⊥) → (s ≡ 202 → ⊥) → (s ≡ 203 → ⊥) → (s ≡ 204 → ⊥) → (s ≡ 205 → ⊥) → false ≡ leaf_ok s x
+pub leaf-unknown : (x : List ℕ) → false ≡ leaf_ok 255 x
 unfolding leaf_ok
-leaf-no s x n₁ n₂ n₃ n₄ n₅ = simp (ne_eqb s 201 n₁, ne_eqb s 202 n₂, ne_eqb s 203 n₃, ne_eqb s 204 n₄, ne_eqb s 205 n₅)
+leaf-unknown x = refl
+
+-- a text that starts with `$`, whose code is 36
+dollar-first : (y : ℕ) (ys : List ℕ) → (x : Bool) → eqb 36 y ≡ x → starts_with eqb (y ∷ ys) (36 ∷ []) ≡ dollar (y ∷ ys)
+dollar-first y ys true e = simp (e, eq-eqb y 36 (sym (eqb-true 36 y e))) refl
+dollar-first y ys false e = simp (e, ne_eqb y 36 (λ q. eqb-false 36 y e (sym q))) refl
+
+pub starts-dollar : (x : List ℕ) → starts_with eqb x (36 ∷ []) ≡ dollar x
+starts-dollar [] = refl
+starts-dollar (y ∷ ys) = dollar-first y ys (eqb 36 y) refl
 
 pub both-no : (x y : Bool) → x ≡ false → false ≡ both x y
 both-no x y e = sym (ap (λ (z : Bool). both z y) e)
@@ -84,85 +79,70 @@ both-no x y e = sym (ap (λ (z : Bool). both z y) e)
 pub both_yes : (x y : Bool) → x ≡ true → y ≡ both x y
 both_yes x y e = sym (ap (λ (z : Bool). both z y) e)
 
-module _ (b : List ℕ) (p e s : ℕ) (k : e ≤ length b) where
-  pub dollar-yes : s ≡ 202 → p < e → get_or b p 0 ≡ 36 → text (part b p e) ≡ leaf_ok s (part b p e)
-  dollar-yes q h d = both_yes (dollar (part b p e)) (text (part b p e)) (ap dollar (part-cons b p e h k) ∙ eq-eqb (get_or b p 0) 36 d) ∙ leaf-dollar s (part b p e) q
+-- ---- operators
 
-  pub dollar-no : s ≡ 202 → p < e → (get_or b p 0 ≡ 36 → ⊥) → false ≡ leaf_ok s (part b p e)
-  dollar-no q h d = both-no (dollar (part b p e)) (text (part b p e)) (ap dollar (part-cons b p e h k) ∙ ne_eqb (get_or b p 0) 36 d) ∙ leaf-dollar s (part b p e) q
+-- r is the answer at n bytes from lo on
+here-or-later : (r : Bool) (lo k : ℕ) → r ≡ is_operator lo → ((lo ≡ k → ⊥) → r ≡ is_operator k) → (x : Bool) → eqb lo k ≡ x → r ≡ is_operator k
+here-or-later r lo k h f true e = h ∙ ap is_operator (eqb-true lo k e)
+here-or-later r lo k h f false e = f (eqb-false lo k e)
 
-  pub dollar-none : s ≡ 202 → e ≤ p → false ≡ leaf_ok s (part b p e)
-  dollar-none q h = both-no (dollar (part b p e)) (text (part b p e)) (ap dollar (part_none b p e h)) ∙ leaf-dollar s (part b p e) q
+answers : Bool → ℕ → ℕ → Bool
+answers r lo zero = true
+answers r lo (suc n) = same r (is_operator lo) && answers r (suc lo) n
 
-  module _ (h : p ≤ e) where
-    pub operator-yes : (r : Bool) → s ≡ 204 → e - p ≡ 1 → r ≡ is_operator (get_or b p 0) → r ≡ leaf_ok s (part b p e)
-    operator-yes r q l o =
-        let c : part b p e ≡ get_or b p 0 ∷ part b (p + 1) e = part-cons b p e (omega arith) k in
-        o ∙ ap (λ (x : List ℕ). is_operator (get_or x 0 0)) (sym c) ∙ both_yes (eqb (length (part b p e)) 1) (is_operator (get_or (part b p e) 0 0)) (eq-eqb _ _ (part_length b p e h k ∙ l)) ∙ leaf-operator s (part b p e) q
+op-run : (r : Bool) (lo n k : ℕ) → T (answers r lo n) → lo ≤ k → k < lo + n → r ≡ is_operator k
+unfolding answers
+op-run r lo zero k t h l = absurd (omega arith)
+op-run r lo (suc n) k t h l =
+    let w = parts (same r (is_operator lo)) (answers r (suc lo) n) t in
+    here-or-later r lo k (same-eq r (is_operator lo) w.0) (λ d. op-run r (suc lo) n k w.1 (omega arith) (omega arith)) (eqb lo k) refl
 
-    pub operator-no : s ≡ 204 → (e - p ≡ 1 → ⊥) → false ≡ leaf_ok s (part b p e)
-    operator-no q l = both-no (eqb (length (part b p e)) 1) (is_operator (get_or (part b p e) 0 0)) (ne_eqb _ _ (λ z. l (sym (part_length b p e h k) ∙ z))) ∙ leaf-operator s (part b p e) q
+-- the runs that the code tells apart
+pub op-none : (k : ℕ) → k < 1 → false ≡ is_operator k
+unfolding answers same is_operator operator_of
+op-none k h = op-run false 0 1 k tt (omega arith) h
 
-    pub scalar-yes : (r : Bool) (v : ℕ) → s ≡ 205 → e - p ≡ 4 → v ≡ value (take 4 (drop p b)) → r ≡ is_scalar v → r ≡ leaf_ok s (part b p e)
-    scalar-yes r v q l n o =
-        o ∙ ap is_scalar (n ∙ ap (λ (j : ℕ). value (take j (drop p b))) (sym l)) ∙ both_yes (eqb (length (part b p e)) 4) (is_scalar (value (part b p e))) (eq-eqb _ _ (part_length b p e h k ∙ l)) ∙ leaf-scalar s (part b p e) q
+pub op-low : (k : ℕ) → 1 ≤ k → k ≤ 7 → true ≡ is_operator k
+unfolding answers same is_operator operator_of
+op-low k h l = op-run true 1 7 k tt h (omega arith)
 
-    pub scalar-no : s ≡ 205 → (e - p ≡ 4 → ⊥) → false ≡ leaf_ok s (part b p e)
-    scalar-no q l = both-no (eqb (length (part b p e)) 4) (is_scalar (value (part b p e))) (ne_eqb _ _ (λ z. l (sym (part_length b p e h k) ∙ z))) ∙ leaf-scalar s (part b p e) q
+pub op-no_low : (k : ℕ) → 7 < k → k < 0x10 → false ≡ is_operator k
+unfolding answers same is_operator operator_of
+op-no_low k h l = op-run false 8 8 k tt h l
 
--- ---- operators: the code's tests, compared with the list at each byte
+pub op-math : (k : ℕ) → 0x10 ≤ k → k ≤ 0x14 → true ≡ is_operator k
+unfolding answers same is_operator operator_of
+op-math k h l = op-run true 0x10 5 k tt h (omega arith)
 
-ranges : ℕ → Bool
-ranges k = cond (ltb k 0x10) (cond (eqb k 0) false (ltb k 0x08)) (cond (ltb k 0x20) (ltb k 0x15) (cond (ltb k 0x30) (ltb k 0x26) (ltb k 0x35)))
+pub op-no_math : (k : ℕ) → 0x14 < k → k < 0x20 → false ≡ is_operator k
+unfolding answers same is_operator operator_of
+op-no_math k h l = op-run false 0x15 11 k tt h l
 
-alike : ℕ → ℕ → Bool
-alike k x = same (ranges k) (is_operator k)
+pub op-cmp : (k : ℕ) → 0x20 ≤ k → k ≤ 0x25 → true ≡ is_operator k
+unfolding answers same is_operator operator_of
+op-cmp k h l = op-run true 0x20 6 k tt h (omega arith)
 
-by-ranges : (k : ℕ) → k < 256 → ranges k ≡ is_operator k
-unfolding classes alike same ranges is_operator operator_of
-by-ranges k h = same-eq (ranges k) (is_operator k) (at alike classes tt k h)
+pub op-no_cmp : (k : ℕ) → 0x25 < k → k < 0x30 → false ≡ is_operator k
+unfolding answers same is_operator operator_of
+op-no_cmp k h l = op-run false 0x26 10 k tt h l
 
-module _ (k : ℕ) (h : k < 256) where
-  pub op-none : k < 0x10 → k ≡ 0 → false ≡ is_operator k
-  unfolding ranges
-  op-none l z = sym (simp (lt-ltb k 0x10 l, eq-eqb k 0 z)) ∙ by-ranges k h
+pub op-update : (k : ℕ) → 0x30 ≤ k → k ≤ 0x34 → true ≡ is_operator k
+unfolding answers same is_operator operator_of
+op-update k h l = op-run true 0x30 5 k tt h (omega arith)
 
-  pub op-low : k < 0x10 → (k ≡ 0 → ⊥) → ltb k 0x08 ≡ is_operator k
-  unfolding ranges
-  op-low l z = sym (simp (lt-ltb k 0x10 l, ne_eqb k 0 z)) ∙ by-ranges k h
+pub op-no_update : (k : ℕ) → 0x34 < k → k < 256 → false ≡ is_operator k
+unfolding answers same is_operator operator_of
+op-no_update k h l = op-run false 0x35 203 k tt h (omega arith)
 
-  pub op-math : 0x10 ≤ k → k < 0x20 → ltb k 0x15 ≡ is_operator k
-  unfolding ranges
-  op-math g l = sym (simp (le-ltb k 0x10 g, lt-ltb k 0x20 l)) ∙ by-ranges k h
-
-  pub op-cmp : 0x20 ≤ k → k < 0x30 → ltb k 0x26 ≡ is_operator k
-  unfolding ranges
-  op-cmp g l =
-      let a : 0x10 ≤ k = omega arith in
-      sym (simp (le-ltb k 0x10 a, le-ltb k 0x20 g, lt-ltb k 0x30 l)) ∙ by-ranges k h
-
-  pub op-update : 0x30 ≤ k → ltb k 0x35 ≡ is_operator k
-  unfolding ranges
-  op-update g =
-      let a : 0x10 ≤ k = omega arith in
-      let c : 0x20 ≤ k = omega arith in
-      sym (simp (le-ltb k 0x10 a, le-ltb k 0x20 c, le-ltb k 0x30 g)) ∙ by-ranges k h
+pub ruleset operator_runs = (op-none, op-low, op-no_low, op-math, op-no_math, op-cmp, op-no_cmp, op-update, op-no_update)
 
 -- ---- four bytes
 
-drop-four : (b : List ℕ) (p : ℕ) → p + 4 ≤ length b → drop p b ≡ get_or b p 0 ∷ get_or b (p + 1) 0 ∷ get_or b (p + 2) 0 ∷ get_or b (p + 3) 0 ∷ drop (p + 4) b
-drop-four b p h =
-    let e₁ : p + 1 ≡ suc p = omega arith in
-    let e₂ : p + 2 ≡ suc (suc p) = omega arith in
-    let e₃ : p + 3 ≡ suc (suc (suc p)) = omega arith in
-    let e₄ : p + 4 ≡ suc (suc (suc (suc p))) = omega arith in
-    rw (e₁, e₂, e₃, e₄)
-    (drop-cons b p 0 (omega arith) ∙ ap (◌∷◌ (get_or b p 0)) (drop-cons b (suc p) 0 (omega arith)
-    ∙ ap (◌∷◌ (get_or b (suc p) 0)) (drop-cons b (suc (suc p)) 0 (omega arith) ∙ ap (◌∷◌ (get_or b (suc (suc p)) 0)) (drop-cons b (suc (suc (suc p))) 0 (omega arith)))))
-
-pub four-value : (b : List ℕ) (p : ℕ) → p + 4 ≤ length b
-    → get_or b p 0 + get_or b (p + 1) 0 * 0x100 + get_or b (p + 2) 0 * 0x10000 + get_or b (p + 3) 0 * 0x1000000 ≡ value (take 4 (drop p b))
+pub four-value : (x : List ℕ) → length x ≡ 4 → from_le_bytes w32 (get_or x 0 0 ∷ get_or x 1 0 ∷ get_or x 2 0 ∷ get_or x 3 0 ∷ []) ≡ value x
 unfolding value
-four-value b p h =
-    let s : (w x y z : ℕ) → w + x * 0x100 + y * 0x10000 + z * 0x1000000 ≡ w + 256 * (x + 256 * (y + 256 * (z + 256 * 0))) = λ w x y z. omega arith in
-    s (get_or b p 0) (get_or b (p + 1) 0) (get_or b (p + 2) 0) (get_or b (p + 3) 0) ∙ ap (λ (l : List ℕ). value (take 4 l)) (sym (drop-four b p h))
+four-value [] h = absurd (omega arith)
+four-value (a ∷ []) h = absurd (omega arith)
+four-value (a ∷ b ∷ []) h = absurd (omega arith)
+four-value (a ∷ b ∷ c ∷ []) h = absurd (omega arith)
+four-value (a ∷ b ∷ c ∷ d ∷ []) h = omega arith
+four-value (a ∷ b ∷ c ∷ d ∷ e ∷ xs) h = absurd (omega arith)

@@ -13,6 +13,9 @@ use borrow.Author.Tests.{eq-eqb, ne_eqb, eqb-true, eqb-false}
 use Rattle.tree.specs.Every.{at}
 use Rattle.tree.specs.Table.{items}
 use Rattle.tree.specs.Leaf.{both}
+use Rattle.tree.specs.Shapes.{number_of_mode}
+use Rattle.tree.specs.declared.table.Mode.{Mode}
+use Rattle.tree.specs.declared.table.Mode.TheVariants.{One, Optional, Many, Mixed}
 use Rattle.tree.proofs.Match.{not-both}
 use Rattle.tree.specs.Grammar.{Items, dead, end, one, opt, many, mix, term, decode, row_at, after, ends}
 
@@ -138,6 +141,32 @@ module _ (j it : ℕ) (h : j < 106) (e : it ≡ get_or items j 0) (c : ℕ) wher
         let z : it ≡ 0 → ⊥ = λ d. m (ap (λ (i : ℕ). i % 4) d) in
         let f : it ≡ 4 → ⊥ = λ d. m (ap (λ (i : ℕ). i % 4) d) in
         sym (ap (λ (i : Items). after i c) (row-kind j it h e z f) ∙ passed (it % 4) (it / 8) c (row_at (j + 1)) q (mod-lt it (omega arith)) m n)
+
+-- what the modes say of an item
+pub one-mode : (m : Mode) (n : ℕ) → number_of_mode m ≡ n → m ≡ One → n ≡ 0
+one-mode m n e h = sym e ∙ ap number_of_mode h
+
+pub not-one : (m : Mode) (n : ℕ) → number_of_mode m ≡ n → (m ≡ One → ⊥) → n ≡ 0 → ⊥
+not-one One n e h z = h refl
+not-one Optional n e h z = absurd (omega arith)
+not-one Many n e h z = absurd (omega arith)
+not-one Mixed n e h z = absurd (omega arith)
+
+pub mixed-mode : (m : Mode) (n c : ℕ) → number_of_mode m ≡ n → m ≡ Mixed → c ≡ term → both (eqb n 3) (eqb c term) ≡ true
+mixed-mode m n c e h t = simp (eq-eqb n 3 (sym e ∙ ap number_of_mode h), eq-eqb c term t) refl
+
+pub not-mixed : (m : Mode) (n c : ℕ) → number_of_mode m ≡ n → (m ≡ Mixed → ⊥) → both (eqb n 3) (eqb c term) ≡ false
+not-mixed One n c e h = simp (ne_eqb n 3 (λ q. omega arith)) refl
+not-mixed Optional n c e h = simp (ne_eqb n 3 (λ q. omega arith)) refl
+not-mixed Many n c e h = simp (ne_eqb n 3 (λ q. omega arith)) refl
+not-mixed Mixed n c e h = absurd (h refl)
+
+pub not-term : (n c : ℕ) → (c ≡ term → ⊥) → both (eqb n 3) (eqb c term) ≡ false
+not-term n c h = go (eqb n 3)
+  where
+    go : (x : Bool) → both x (eqb c term) ≡ false
+    go true = ne_eqb c term h
+    go false = refl
 
 -- the code has come to the last item
 pub at_last : (j c : ℕ) → 105 ≤ j → j < 106 → row_at 105 ≡ after (row_at j) c

@@ -91,37 +91,36 @@ stands b p u h =
       second = n.0;
     }
 
--- q is where its includes start, e where they end
-module _ (b : List ℕ) (p q : ℕ) (i : q ≡ end_of b (p + 3)) (u : Uses) (h : Using b p u) where
-  pub imports-at : (q ≤ length b) × ((vs : List ℕ) × Held b 6 q vs (p + 6))
-  imports-at = let s = stands b p u h in subst (λ (j : ℕ). (j ≤ length b) × ((vs : List ℕ) × Held b 6 j vs (p + 6))) (sym i) (s.first, (imported u.imports, s.imports))
+-- q is where its includes start, f where its first import does
+module _ (b : List ℕ) (p q f : ℕ) (i : q ≡ end_of b (p + 3)) (k : f ≡ p + 6) (u : Uses) (h : Using b p u) where
+  import-numbers : Held b 6 q (imported u.imports) f
+  import-numbers = let s = stands b p u h in subst (Held b 6 q (imported u.imports)) (sym k) (subst (λ (j : ℕ). Held b 6 j (imported u.imports) (p + 6)) (sym i) s.imports)
+
+  pub imports-at : (q ≤ length b) × ((vs : List ℕ) × Held b 6 q vs f)
+  imports-at = let s = stands b p u h in (subst (λ (j : ℕ). j ≤ length b) (sym i) s.first, (imported u.imports, import-numbers))
 
   pub includes-fit : end_of b q ≤ length b
   includes-fit = let s = stands b p u h in subst (λ (j : ℕ). end_of b j ≤ length b) (sym i) s.second
 
-  pub includes-at : (e : ℕ) → e ≡ end_of b q → (e ≤ length b) × ((vs : List ℕ) × Held b 3 e vs (q + 3))
-  includes-at e k =
-      let s = stands b p u h in
-      let w : end_of b (end_of b (p + 3)) ≡ e = ap (end_of b) (sym i) ∙ sym k in
-      subst (λ (j : ℕ). (e ≤ length b) × ((vs : List ℕ) × Held b 3 e vs (j + 3))) (sym i)
-      (subst (λ (j : ℕ). (j ≤ length b) × ((vs : List ℕ) × Held b 3 j vs (end_of b (p + 3) + 3))) w (s.second, (included u.includes, s.includes)))
+  pub not-below : (m : ℕ) → ((vs : List ℕ) → Held b 6 q vs f → false ≡ below m vs) → false ≡ uses_below m u
+  unfolding uses_below
+  not-below m g = both-no (below m (imported u.imports)) (below m (included u.includes)) (sym (g (imported u.imports) import-numbers))
 
-  module _ (m : ℕ) where
-    pub both_below : (e : ℕ) → e ≡ end_of b q → (r : Bool) → ((vs : List ℕ) → Held b 6 q vs (p + 6) → true ≡ below m vs) → ((vs : List ℕ) → Held b 3 e vs (q + 3) → r ≡ below m vs) → r ≡ uses_below m u
-    unfolding uses_below
-    both_below e k r f g =
+  -- e is where its includes end, g where the first of them starts
+  module _ (e g : ℕ) (l : e ≡ end_of b q) (n : g ≡ q + 3) where
+    include-numbers : Held b 3 e (included u.includes) g
+    include-numbers =
         let s = stands b p u h in
-        let w : end_of b (end_of b (p + 3)) ≡ e = ap (end_of b) (sym i) ∙ sym k in
-        let x : Held b 6 q (imported u.imports) (p + 6) = subst (λ (j : ℕ). Held b 6 j (imported u.imports) (p + 6)) (sym i) s.imports in
+        let w : end_of b (end_of b (p + 3)) ≡ e = ap (end_of b) (sym i) ∙ sym l in
         let y : Held b 3 e (included u.includes) (q + 3) = subst (λ (j : ℕ). Held b 3 e (included u.includes) (j + 3)) (sym i) (subst (λ (j : ℕ). Held b 3 j (included u.includes) (end_of b (p + 3) + 3)) w s.includes) in
-        g (included u.includes) y ∙ both_yes (below m (imported u.imports)) (below m (included u.includes)) (sym (f (imported u.imports) x))
+        subst (Held b 3 e (included u.includes)) (sym n) y
 
-    pub not-below : ((vs : List ℕ) → Held b 6 q vs (p + 6) → false ≡ below m vs) → false ≡ uses_below m u
+    pub includes-at : (e ≤ length b) × ((vs : List ℕ) × Held b 3 e vs g)
+    includes-at = (subst (λ (j : ℕ). j ≤ length b) (sym l) includes-fit, (included u.includes, include-numbers))
+
+    pub both_below : (m : ℕ) (r : Bool) → ((vs : List ℕ) → Held b 6 q vs f → true ≡ below m vs) → ((vs : List ℕ) → Held b 3 e vs g → r ≡ below m vs) → r ≡ uses_below m u
     unfolding uses_below
-    not-below f =
-        let s = stands b p u h in
-        let x : Held b 6 q (imported u.imports) (p + 6) = subst (λ (j : ℕ). Held b 6 j (imported u.imports) (p + 6)) (sym i) s.imports in
-        both-no (below m (imported u.imports)) (below m (included u.includes)) (sym (f (imported u.imports) x))
+    both_below m r x y = y (included u.includes) include-numbers ∙ both_yes (below m (imported u.imports)) (below m (included u.includes)) (sym (x (imported u.imports) import-numbers))
 
 -- ---- the loop over numbers
 

@@ -2,6 +2,7 @@ pub mod Tree
 pub mod Every
 pub mod Table
 pub mod Leaf
+pub mod Shapes
 pub mod Rose
 pub mod Grammar
 pub mod Scan

@@ -1,5 +1,5 @@
 -- The tables of the tree form, made by tools/tree_table.py from TREE.md's table. Assumes nothing.
-use Rattle.std.specs.Prelude.{ℕ, List, [], ◌∷◌, ◌++◌}
+use Rattle.std.specs.Prelude.{ℕ, List, [], ◌∷◌}
 
 -- of each byte that is a tag its class, 31 for any other. The classes are, from 1 on:
 -- tree natives globals module main native imports includes vars definitions import definition number name parameter PATTERN patentry TERM OPERATOR pair format strpart entry part optional from upto
@@ -15,7 +15,3 @@ shapes = 255 ∷ 255 ∷ 255 ∷ 255 ∷ 255 ∷ 255 ∷ 255 ∷ 255 ∷ 255 ∷
 -- terms; and 4 more if the row may end before it. Row 0 is that of the bytes themselves, one tree; the last item, 0, is where no row goes on
 unfoldable pub items : List ℕ
 items = 8 ∷ 4 ∷ 16 ∷ 25 ∷ 34 ∷ 40 ∷ 4 ∷ 54 ∷ 4 ∷ 118 ∷ 4 ∷ 56 ∷ 64 ∷ 72 ∷ 80 ∷ 4 ∷ 56 ∷ 64 ∷ 72 ∷ 144 ∷ 4 ∷ 112 ∷ 126 ∷ 4 ∷ 94 ∷ 4 ∷ 110 ∷ 4 ∷ 118 ∷ 4 ∷ 102 ∷ 4 ∷ 104 ∷ 112 ∷ 4 ∷ 112 ∷ 122 ∷ 144 ∷ 4 ∷ 134 ∷ 4 ∷ 142 ∷ 4 ∷ 144 ∷ 128 ∷ 4 ∷ 4 ∷ 4 ∷ 149 ∷ 4 ∷ 144 ∷ 4 ∷ 112 ∷ 144 ∷ 4 ∷ 160 ∷ 166 ∷ 149 ∷ 4 ∷ 112 ∷ 150 ∷ 4 ∷ 98 ∷ 144 ∷ 4 ∷ 144 ∷ 149 ∷ 4 ∷ 112 ∷ 144 ∷ 128 ∷ 150 ∷ 4 ∷ 144 ∷ 152 ∷ 144 ∷ 4 ∷ 144 ∷ 198 ∷ 4 ∷ 173 ∷ 183 ∷ 4 ∷ 190 ∷ 4 ∷ 133 ∷ 4 ∷ 144 ∷ 144 ∷ 4 ∷ 144 ∷ 149 ∷ 4 ∷ 144 ∷ 205 ∷ 4 ∷ 213 ∷ 221 ∷ 205 ∷ 4 ∷ 4 ∷ 144 ∷ 4 ∷ 144 ∷ 4 ∷ 0 ∷ []
-
--- the three in one, as the code has them
-unfoldable pub table : List ℕ
-table = classes ++ shapes ++ items

@@ -1,10 +1,11 @@
-// The table of the tree form and its readers. A constant array is built where it is used, so one function has it and lends it to the others.
-// tools/tree_table.py writes it, here and in specs/Table.antt: of each byte its class, of each byte its content, the rows of items.
-ghost use Rattle.std.specs.Prelude.{◌≡◌, ◌<◌, get_or};
-ghost use Rattle.tree.specs.Table.{items, table};
+// The tables of the tree form, and their readers. tools/tree_table.py writes them, here and in specs/Table.antt: of each byte its class, of each byte its
+// content, the rows of items.
+ghost use Rattle.std.specs.Prelude.{◌≡◌, ◌<◌, ◌/◌, ◌%◌, eqb, get_or};
+ghost use Rattle.tree.specs.Table.{items};
 ghost use Rattle.tree.specs.Leaf.{class, shape};
+ghost use Rattle.tree.specs.Shapes.{IsShape, is_row, leaf_of, number_of_mode};
 
-pub const TABLE: [u8; 618] = [
+static CLASSES: [u8; 256] = [
     31, 31, 31, 31, 31, 31, 31, 31, 31, 31, 31, 31, 31, 31, 31, 31, 31, 31, 31, 31, 31, 31, 31, 31,
     31, 31, 31, 31, 31, 31, 31, 31, 31, 31, 31, 31, 31, 31, 31, 31, 31, 31, 31, 31, 31, 31, 31, 31,
     31, 31, 31, 31, 31, 31, 31, 31, 31, 31, 31, 31, 31, 31, 31, 31, 31, 31, 31, 31, 31, 31, 31, 31,
@@ -15,47 +16,140 @@ pub const TABLE: [u8; 618] = [
     18, 18, 18, 18, 18, 18, 18, 31, 31, 31, 31, 31, 31, 19, 20, 19, 21, 22, 22, 23, 24, 24, 25, 26,
     27, 31, 31, 31, 31, 31, 31, 31, 31, 31, 31, 31, 31, 31, 31, 31, 31, 31, 31, 31, 31, 31, 31, 31,
     31, 31, 31, 31, 31, 31, 31, 31, 31, 31, 31, 31, 31, 31, 31, 31, 31, 31, 31, 31, 31, 31, 31, 31,
-    31, 31, 31, 31, 31, 31, 31, 31, 31, 31, 31, 31, 31, 31, 255, 255, 255, 255, 255, 255, 255, 255,
-    255, 255, 255, 255, 255, 255, 255, 255, 255, 255, 255, 255, 255, 255, 255, 255, 255, 255, 255,
-    255, 255, 255, 255, 255, 255, 255, 255, 255, 255, 255, 255, 255, 255, 255, 255, 255, 255, 255,
-    255, 255, 255, 255, 255, 255, 255, 255, 255, 255, 255, 255, 255, 255, 255, 255, 255, 255, 255,
-    255, 255, 255, 255, 255, 255, 255, 255, 255, 255, 255, 255, 255, 255, 255, 255, 255, 255, 255,
-    255, 255, 255, 255, 255, 255, 255, 255, 255, 255, 255, 255, 255, 255, 255, 255, 255, 255, 255,
-    255, 255, 255, 255, 255, 255, 255, 255, 255, 255, 255, 255, 255, 255, 255, 255, 255, 255, 255,
-    255, 255, 255, 255, 255, 255, 2, 7, 9, 11, 16, 21, 24, 26, 28, 30, 32, 255, 35, 203, 255, 255,
-    201, 201, 255, 255, 255, 255, 255, 255, 202, 39, 41, 43, 255, 255, 255, 255, 46, 47, 48, 50,
-    52, 201, 55, 202, 59, 62, 201, 65, 68, 73, 77, 80, 83, 255, 255, 255, 255, 255, 255, 85, 87,
-    204, 201, 201, 205, 90, 93, 96, 100, 101, 103, 255, 255, 255, 255, 255, 255, 255, 255, 255,
-    255, 255, 255, 255, 255, 255, 255, 255, 255, 255, 255, 255, 255, 255, 255, 255, 255, 255, 255,
-    255, 255, 255, 255, 255, 255, 255, 255, 255, 255, 255, 255, 255, 255, 255, 255, 255, 255, 255,
-    255, 255, 255, 255, 255, 255, 255, 255, 255, 255, 255, 255, 255, 255, 8, 4, 16, 25, 34, 40, 4,
-    54, 4, 118, 4, 56, 64, 72, 80, 4, 56, 64, 72, 144, 4, 112, 126, 4, 94, 4, 110, 4, 118, 4, 102,
-    4, 104, 112, 4, 112, 122, 144, 4, 134, 4, 142, 4, 144, 128, 4, 4, 4, 149, 4, 144, 4, 112, 144,
-    4, 160, 166, 149, 4, 112, 150, 4, 98, 144, 4, 144, 149, 4, 112, 144, 128, 150, 4, 144, 152,
-    144, 4, 144, 198, 4, 173, 183, 4, 190, 4, 133, 4, 144, 144, 4, 144, 149, 4, 144, 205, 4, 213,
-    221, 205, 4, 4, 144, 4, 144, 4, 0,
+    31, 31, 31, 31, 31, 31, 31, 31, 31, 31, 31, 31, 31, 31,
 ];
 
-// The class of a tag.
-pub fn class(t: &[u8], k: u8) -> u8
-    requires { t.now ≡ table }
-    ensures { (result ≡ class k) × (0 < result) }
-{
-    t[k as usize]
+static SHAPES: [u8; 256] = [
+    255, 255, 255, 255, 255, 255, 255, 255, 255, 255, 255, 255, 255, 255, 255, 255, 255, 255, 255,
+    255, 255, 255, 255, 255, 255, 255, 255, 255, 255, 255, 255, 255, 255, 255, 255, 255, 255, 255,
+    255, 255, 255, 255, 255, 255, 255, 255, 255, 255, 255, 255, 255, 255, 255, 255, 255, 255, 255,
+    255, 255, 255, 255, 255, 255, 255, 255, 255, 255, 255, 255, 255, 255, 255, 255, 255, 255, 255,
+    255, 255, 255, 255, 255, 255, 255, 255, 255, 255, 255, 255, 255, 255, 255, 255, 255, 255, 255,
+    255, 255, 255, 255, 255, 255, 255, 255, 255, 255, 255, 255, 255, 255, 255, 255, 255, 255, 255,
+    255, 255, 255, 255, 255, 255, 255, 255, 255, 255, 255, 255, 255, 255, 2, 7, 9, 11, 16, 21, 24,
+    26, 28, 30, 32, 255, 35, 203, 255, 255, 201, 201, 255, 255, 255, 255, 255, 255, 202, 39, 41,
+    43, 255, 255, 255, 255, 46, 47, 48, 50, 52, 201, 55, 202, 59, 62, 201, 65, 68, 73, 77, 80, 83,
+    255, 255, 255, 255, 255, 255, 85, 87, 204, 201, 201, 205, 90, 93, 96, 100, 101, 103, 255, 255,
+    255, 255, 255, 255, 255, 255, 255, 255, 255, 255, 255, 255, 255, 255, 255, 255, 255, 255, 255,
+    255, 255, 255, 255, 255, 255, 255, 255, 255, 255, 255, 255, 255, 255, 255, 255, 255, 255, 255,
+    255, 255, 255, 255, 255, 255, 255, 255, 255, 255, 255, 255, 255, 255, 255, 255, 255, 255, 255,
+    255, 255,
+];
+
+static ITEMS: [u8; 106] = [
+    8, 4, 16, 25, 34, 40, 4, 54, 4, 118, 4, 56, 64, 72, 80, 4, 56, 64, 72, 144, 4, 112, 126, 4, 94,
+    4, 110, 4, 118, 4, 102, 4, 104, 112, 4, 112, 122, 144, 4, 134, 4, 142, 4, 144, 128, 4, 4, 4,
+    149, 4, 144, 4, 112, 144, 4, 160, 166, 149, 4, 112, 150, 4, 98, 144, 4, 144, 149, 4, 112, 144,
+    128, 150, 4, 144, 152, 144, 4, 144, 198, 4, 173, 183, 4, 190, 4, 133, 4, 144, 144, 4, 144, 149,
+    4, 144, 205, 4, 213, 221, 205, 4, 4, 144, 4, 144, 4, 0,
+];
+
+// The class of terms.
+pub const TERM: u8 = 18;
+
+// What the bytes of a leaf are: a text, a text that starts with `$`, two bytes, an operator's byte, a scalar value in four bytes. A byte that is no tag has
+// no content that is right.
+#[derive(Clone, Copy)]
+pub enum Leaf {
+    Text,
+    Dollar,
+    Two,
+    Operator,
+    Scalar,
+    Unknown,
 }
 
-// The content of a tag: where its row of items starts, or from 200 on what leaf it is.
-pub fn shape(t: &[u8], k: u8) -> usize
-    requires { t.now ≡ table }
-    ensures { (result ≡ shape k) × (result < 200 → result < 106) }
+// The content of a tag: a row of members, whose items start at an index, or the bytes of a leaf.
+#[derive(Clone, Copy)]
+pub enum Shape {
+    Row(usize),
+    Bytes(Leaf),
+}
+
+impl Shape {
+    pub fn is_row(self) -> bool
+        ensures { result ≡ is_row self }
+    {
+        matches!(self, Shape::Row(_))
+    }
+}
+
+// How many members of its class an item takes; `Mixed` is any number of them or of terms.
+#[derive(Clone, Copy, PartialEq, Eq)]
+pub enum Mode {
+    One,
+    Optional,
+    Many,
+    Mixed,
+}
+
+// An item of a row: eight times its class, four more if the row may end before it, and its mode.
+#[derive(Clone, Copy)]
+pub struct Item {
+    byte: u8,
+}
+
+impl Item {
+    pub fn takes(self, class: u8) -> bool
+        ensures { result ≡ eqb (self.byte / 8) class }
+    {
+        self.byte / 8 == class
+    }
+
+    pub fn mode(self) -> Mode
+        ensures { number_of_mode result ≡ self.byte % 4 }
+    {
+        match self.byte % 4 {
+            0 => Mode::One,
+            1 => Mode::Optional,
+            2 => Mode::Many,
+            _ => Mode::Mixed,
+        }
+    }
+
+    pub fn may_end(self) -> bool
+        ensures { result ≡ eqb (self.byte / 4 % 2) 1 }
+    {
+        self.byte / 4 % 2 == 1
+    }
+}
+
+// The class of a tag.
+pub fn class_of(k: u8) -> u8
+    ensures { (result ≡ class k) × (0 < result) }
 {
-    t[256 + (k as usize)] as usize
+    CLASSES[k as usize]
+}
+
+// The kind of leaf that has this number.
+fn leaf_of(s: u8) -> Leaf
+    ensures { result ≡ leaf_of s }
+{
+    match s {
+        201 => Leaf::Text,
+        202 => Leaf::Dollar,
+        203 => Leaf::Two,
+        204 => Leaf::Operator,
+        205 => Leaf::Scalar,
+        _ => Leaf::Unknown,
+    }
+}
+
+// The content of a tag.
+pub fn shape_of(k: u8) -> Shape
+    ensures { IsShape result (shape k) }
+{
+    let s = SHAPES[k as usize];
+    if s < 200 {
+        return Shape::Row(s as usize);
+    }
+    Shape::Bytes(leaf_of(s))
 }
 
 // An item of the rows.
-pub fn item(t: &[u8], i: usize) -> u8
-    requires { (i < 106) × (t.now ≡ table) }
-    ensures { result ≡ get_or items i 0 }
+pub fn item_at(i: usize) -> Item
+    requires { i < 106 }
+    ensures { result.byte ≡ get_or items i 0 }
 {
-    t[512 + i]
+    Item { byte: ITEMS[i] }
 }

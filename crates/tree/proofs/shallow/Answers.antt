@@ -1,33 +1,47 @@
 -- `tree::shallow`: the walk from the loop's place on stays within the limit exactly if the whole does. Assumes nothing.
-use Rattle.tree.proofs.Deep.{walk_start, walk-deep, walk-next, walk_end, all-fits, next-lt}
-use mathlib.Core.Path.{◌∙◌}
 use native.Mathlib.Omega.{arith}
-use borrow.Author.Rules.{rules}
+use mathlib.Core.Path.{◌∙◌, sym, ap, ap₂}
+use mathlib.Core.List.{◌∷◌}
+use lib.ListN.{length}
+use borrow.Author.Tests.{leb-true, leb-false}
+use Rattle.tree.specs.Nest.{counts}
+use Rattle.tree.specs.Formed.{only}
+use Rattle.tree.proofs.Deep.{walk_start, walk-deep, walk-push, walk-leave, walk_end, all-fits, next-lt}
+use Rattle.tree.proofs.shallow.Goals.{then-counts+else-is_full, else-counts}
 use Rattle.tree.proofs.shallow.Goals as goal
 
 pub loop-p-init : goal.loop-p-init
-loop-p-init c = (walk_start _ _ _ _ c.requires.1 c.requires.2, search rules)
+loop-p-init g c = rw c.new-open.ensures (walk_start _ _ _ c.requires.0)
 
-pub end_of-e-requires : goal.end_of-e-requires
-end_of-e-requires c = (omega (arith, all-fits _ _ c.loop-p.invariant.0.all c.loop-p-test.true), search rules)
+pub returns-then-is_full : goal.returns-then-is_full
+returns-then-is_full g c =
+    let on = c.counts.ensures ∙ ap (counts (only c.args.counted)) c.byte.ensures in
+    let l = leb-true _ _ (sym c.is_full.ensures ∙ c.if-is_full.true) in
+    walk-deep _ _ _ _ _ c.loop-p.invariant (omega arith) _ on c.if-counts.true (omega (arith, l, ap length c.pass.ensures))
 
-pub overflow_add-d1 : goal.overflow_add-d1
-overflow_add-d1 c = omega (arith, c.mark.ensures.1)
+pub end_of-requires : goal.end_of-requires
+end_of-requires g c = omega (arith, all-fits _ _ c.loop-p.invariant.all (omega arith))
 
-pub returns-then-d1-mark : goal.returns-then-d1-mark
-returns-then-d1-mark c = walk-deep _ _ _ _ _ _ c.loop-p.invariant.0 c.loop-p-test.true _ c.ended-d1.ensures.1 _ c.counts-on.ensures (omega (arith, c.if-d1-mark.true, c.mark.ensures.0))
-
-pub keep-d-requires : goal.keep-d-requires
-keep-d-requires c = (omega (arith, c.if-d1-mark.false, c.mark.ensures.0, c.loop-p.invariant.0.room), omega (arith, all-fits _ _ c.loop-p.invariant.0.all c.loop-p-test.true, c.end_of-e.ensures, c.requires.0))
+pub push-requires : goal.push-requires
+push-requires g c =
+    let l = leb-false _ _ (sym c.is_full.ensures ∙ c.if-is_full.false) in
+    (omega (arith, c.requires.1), (l, omega (arith, c.end_of.ensures, c.len.ensures, all-fits _ _ c.loop-p.invariant.all (omega arith))))
 
 pub next-p-requires : goal.next-p-requires
-next-p-requires c = (omega (arith, all-fits _ _ c.loop-p.invariant.0.all c.loop-p-test.true), c.end_of-e.ensures, search rules)
+next-p-requires g c = omega (arith, all-fits _ _ c.loop-p.invariant.all (omega arith))
 
 pub loop-p-smaller : goal.loop-p-smaller
-loop-p-smaller c = omega (arith, next-lt c.args.b.now c.loop-p.p _ c.next-p.ensures, c.loop-p-test.true)
+loop-p-smaller g c = omega (arith, next-lt c.args.b.now c.loop-p.p _ c.next-p.ensures)
 
 pub loop-p-preserved : goal.loop-p-preserved
-loop-p-preserved c = (walk-next _ _ _ _ _ _ c.loop-p.invariant.0 c.loop-p-test.true _ c.ended-d1.ensures.1 _ c.counts-on.ensures (omega (arith, c.if-d1-mark.false, c.mark.ensures.0)) _ _ _ _ c.end_of-e.ensures c.keep-d.ensures.0 c.keep-d.ensures.1 c.keep-d.auto.ends c.next-p.ensures, c.keep-d.auto.ends ∙ c.loop-p.invariant.1)
+loop-p-preserved g c =
+    let on = c.counts.ensures ∙ ap (counts (only c.args.counted)) c.byte.ensures in
+    elim c.if-counts.branch [
+      | then-counts+else-is_full w ↦
+          let l = leb-false _ _ (sym w.is_full.ensures ∙ w.if-is_full.false) in
+          walk-push _ _ _ _ _ c.loop-p.invariant (omega arith) _ on w.if-counts.true (omega (arith, l, ap length c.pass.ensures)) _ c.next-p.ensures _ (w.open-is ∙ w.push.ensures ∙ ap₂ ◌∷◌ w.end_of.ensures c.pass.ensures)
+      | else-counts w ↦ walk-leave _ _ _ _ _ c.loop-p.invariant (omega arith) _ on w.if-counts.false _ c.next-p.ensures _ (w.open-is ∙ c.pass.ensures)
+    ]
 
 pub returns : goal.returns
-returns c = walk_end _ _ _ _ _ _ c.loop-p.invariant.0 (omega (arith, c.loop-p-test.false))
+returns g c = walk_end _ _ _ _ _ c.loop-p.invariant (omega arith)

@@ -1,21 +1,39 @@
 -- `tree::skip`: what follows the member is the same from each item that was passed over. Assumes nothing.
 use native.Mathlib.Omega.{arith}
-use mathlib.Core.Path.{◌∙◌, sym, refl}
-use Rattle.tree.proofs.Rows.{at-taken, at-stop, at-mixed, at-pass, at_last}
+use mathlib.Core.Path.{◌≡◌, ◌∙◌, sym}
+use mathlib.Core.Logic.{inl, inr}
 use borrow.Author.Rules.{rules}
+use borrow.Author.Tests.{eqb-true, eqb-false}
+use Rattle.tree.specs.declared.table.Mode.TheVariants.{One, Mixed}
+use Rattle.tree.proofs.Rows.{at-taken, at-stop, at-mixed, at-pass, at_last, one-mode, not-one, mixed-mode, not-mixed, not-term}
 use Rattle.tree.proofs.skip.Goals as goal
 
-pub returns-then-it-c : goal.returns-then-it-c
-returns-then-it-c c = let w = at-taken _ _ c.loop-j.invariant.1 c.item-it.ensures _ c.if-it-c.true c.requires.1 _ refl in (w.0 ∙ c.loop-j.invariant.0, w.1)
+pub returns-then-takes : goal.returns-then-takes
+returns-then-takes c =
+    let w = at-taken _ _ (omega arith) c.item_at-it.ensures _ (eqb-true _ _ (sym c.takes.ensures ∙ c.if-takes.true)) c.requires.1 _ c.behind.ensures in
+    (w.0 ∙ c.loop-j.invariant, w.1)
 
-pub returns-then-it-eq0 : goal.returns-then-it-eq0
-returns-then-it-eq0 c = (at-stop _ _ c.loop-j.invariant.1 c.item-it.ensures _ c.if-it-c.false c.if-it-eq0.true ∙ c.loop-j.invariant.0, search rules)
+pub returns-then-eq : goal.returns-then-eq
+returns-then-eq c =
+    let m : c.mode-mode.result ≡ One = search rules in
+    let n = eqb-false _ _ (sym c.takes.ensures ∙ c.if-takes.false) in
+    (at-stop _ _ (omega arith) c.item_at-it.ensures _ n (one-mode _ _ c.mode-mode.ensures m) ∙ c.loop-j.invariant, search rules)
 
-pub returns-then-mixes : goal.returns-then-mixes
-returns-then-mixes c = (at-mixed _ _ c.loop-j.invariant.1 c.item-it.ensures _ c.if-it-c.false (sym c.mixes.ensures ∙ c.if-mixes.true) ∙ c.loop-j.invariant.0, search rules)
+pub returns-then-c-eq-TERM : goal.returns-then-c-eq-TERM
+returns-then-c-eq-TERM c =
+    let m : c.mode-mode.result ≡ Mixed = search rules in
+    let n = eqb-false _ _ (sym c.takes.ensures ∙ c.if-takes.false) in
+    (at-mixed _ _ (omega arith) c.item_at-it.ensures _ n (mixed-mode _ _ _ c.mode-mode.ensures m c.if-c-eq-TERM.true) ∙ c.loop-j.invariant, omega arith)
 
 pub loop-j-preserved : goal.loop-j-preserved
-loop-j-preserved c = (at-pass _ _ c.loop-j.invariant.1 c.item-it.ensures _ c.if-it-c.false c.if-it-eq0.false (sym c.mixes.ensures ∙ c.if-mixes.false) ∙ c.loop-j.invariant.0, search rules)
+loop-j-preserved c =
+    let o : c.mode-mode.result ≡ One → ⊥ = search rules in
+    let n = eqb-false _ _ (sym c.takes.ensures ∙ c.if-takes.false) in
+    let pass = at-pass _ _ (omega arith) c.item_at-it.ensures _ n (not-one _ _ c.mode-mode.ensures o) in
+    elim c.else-eq-2.either [
+      | inl w ↦ pass (not-term _ _ w.1) ∙ c.loop-j.invariant
+      | inr w ↦ let m : c.mode-mode.result ≡ Mixed → ⊥ = search rules in pass (not-mixed _ _ _ c.mode-mode.ensures m) ∙ c.loop-j.invariant
+    ]
 
 pub returns : goal.returns
-returns c = (at_last _ _ (omega (arith, c.loop-j-test.false)) c.loop-j.invariant.1 ∙ c.loop-j.invariant.0, search rules)
+returns c = (at_last _ _ (omega arith) (omega arith) ∙ c.loop-j.invariant, search rules)
