@@ -19,4 +19,3 @@ pub mod Entries
 pub mod Wholes
 pub mod Pieces
 pub mod Members
-pub mod Parts

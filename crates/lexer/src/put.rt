@@ -88,11 +88,11 @@ impl<'a> Room<'a> {
     }
 
     // A character: what is escaped has two bytes, and two more that are 0.
-    pub fn put_char(&mut self, code: usize)
-        requires { (self.old.next + 7 < 2 ^ 64) × (code < 65536) }
+    pub fn put_char(&mut self, code: u16)
+        requires { self.old.next + 7 < 2 ^ 64 }
         ensures { Puts 7 self.old (tokens_bytes 2 (one (char code))) self.new }
     {
-        self.put_pair(0x0A, code, 0);
+        self.put_pair(0x0A, usize::from(code), 0);
     }
 
     // A text part, unless it is empty.

@@ -2,7 +2,6 @@ use Prim.Native.Nat.{◌-◌}
 use lib.ListN.{length}
 use Rattle.lexer.specs.Lex as lex
 use Rattle.lexer.proofs.Members as members
-use Rattle.lexer.proofs.Readings.{left}
 use Prim.Native.Nat.{◌+◌, ◌-◌, ◌*◌}
 use Rattle.lexer.proofs.cycle.+block_escape_str_token_tokens.Given as goal
 

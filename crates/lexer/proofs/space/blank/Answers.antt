@@ -13,13 +13,13 @@ returns-then-white_space c = wide-space _ _ _ c.char_at-c.ensures (sym c.white_s
 pub returns-else-white_space : goal.returns-else-white_space
 returns-else-white_space c = no-wide _ _ _ c.char_at-c.ensures (sym c.white_space.ensures ∙ c.if-white_space.false) (search rules)
 
-pub returns-in-0-to-127 : goal.returns-in-0-to-127
+pub returns-in_default : goal.returns-in_default
 unfolding white_space spaces
-returns-in-0-to-127 c = no-space _ _ _ c.byte_at.ensures (omega arith) c.requires (grind (arith, common_steps))
+returns-in_default c = no-space _ _ _ c.byte_at.ensures (omega arith) c.requires (grind (arith, common_steps))
 
-pub returns-in-0-to-127-2 : goal.returns-in-0-to-127-2
+pub returns-in_default-2 : goal.returns-in_default-2
 unfolding white_space spaces
-returns-in-0-to-127-2 c = no-space _ _ _ c.byte_at.ensures (omega arith) c.requires (grind (arith, common_steps))
+returns-in_default-2 c = no-space _ _ _ c.byte_at.ensures (omega arith) c.requires (grind (arith, common_steps))
 
 pub returns-in-9-to-13 : goal.returns-in-9-to-13
 unfolding white_space spaces
