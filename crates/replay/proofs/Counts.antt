@@ -1,5 +1,6 @@
 -- What the counts say of the cases replayed. Assumes nothing.
 use mathlib.Core.Path.{◌≡◌, ap, ◌∙◌}
+use mathlib.Core.Bool.{Bool, true, false}
 use mathlib.Core.List.{List}
 use Prim.Native.Nat.{ℕ, ◌+◌, ◌-◌, ◌≤◌}
 use native.Mathlib.Omega.{arith}
@@ -7,10 +8,13 @@ use lib.ListN.{length, take, drop, length-drop}
 use denote.Ref.{Bor}
 use Rattle.std.specs.Prelude.{Some}
 use Rattle.std.proofs.Common.{subst, refl}
+use Rattle.replay.specs.declared.Entry.{Entry}
+use Rattle.replay.specs.declared.Entry.TheVariants.{Climb, Lex}
+use Rattle.replay.specs.declared.Tally.{Tally}
 use Rattle.replay.specs.declared.Tallies.{Tallies}
 use Rattle.replay.specs.Case.{Whole}
 use Rattle.replay.specs.Replay.{Holds}
-use Rattle.replay.specs.Count.{Few, Faultless, Turned, Held, none, more}
+use Rattle.replay.specs.Count.{Few, Faultless, OneMore, Counted, Turned, Held, none, more}
 use Rattle.replay.proofs.Numbers.{drops}
 
 -- what is left is the sample's end; before it stand whole cases, which hold where no mismatch is counted, and no count is above their bytes
@@ -32,3 +36,20 @@ again s rest behind t t' g u =
     let w : List ℕ → Type 0 = λ x. Whole (take n x) in
     let h : List ℕ → Type 0 = λ x. Holds (take n x) in
     rw (← z) (omega (arith, l), drops at n s rest behind.now g.1 e, omega arith, λ i. more at n (g.3 (u.kept i)) (subst w g.1 whole) (subst h g.1 (holds i)))
+
+-- what one more says of the counts: each grows by one at most, and none that is no mismatch was one
+one-more : (t t' : Tally) (held : Bool) → OneMore t t' held
+    → ((n : ℕ) → t.mismatches ≤ n → t'.mismatches ≤ n + 1) × (t'.mismatches ≡ 0 → t.mismatches ≡ 0) × (t'.mismatches ≡ 0 → held ≡ true)
+one-more t t' true o = let m = o.mismatches in (λ n h. omega arith, λ e. omega arith, λ _. refl)
+one-more t t' false o = let m = o.mismatches in (λ n h. omega arith, λ e. omega arith, λ e. absurd (omega arith))
+
+pub counted : (e : Entry) (t t' : Tallies) (held : Bool) → Counted e t t' held
+    → ((n : ℕ) → Few t n → Few t' (n + 1)) × (Faultless t' → Faultless t) × (Faultless t' → held ≡ true)
+counted Climb t t' held c =
+    let o = one-more t.climb t'.climb held c.0 in
+    let k = c.0.cases in
+    (λ n f. rw c.1 (omega arith, o.0 n f.1, omega arith, omega arith), λ f. (o.1 f.0, rw c.1 at f.1), λ f. o.2 f.0)
+counted Lex t t' held c =
+    let o = one-more t.lex t'.lex held c.1 in
+    let k = c.1.cases in
+    (λ n f. rw c.0 (omega arith, omega arith, omega arith, o.0 n f.3), λ f. (rw c.0 at f.0, o.1 f.1), λ f. o.2 f.1)

@@ -1,6 +1,9 @@
 -- The counts of cases and of mismatches, a tally for each entry, and what they say of the sample.
 use Rattle.std.specs.Prelude.{◌≡◌, Bool, true, List, ℕ, ◌+◌, ◌≤◌, ◌<◌, ◌^◌, length, take, drop, get_or, Option, IfSome}
 use denote.Bor.{Bor}
+use Rattle.fields.specs.Outcome.{pick}
+use Rattle.replay.specs.declared.Entry.{Entry}
+use Rattle.replay.specs.declared.Entry.TheVariants.{Climb, Lex}
 use Rattle.replay.specs.declared.Tally.{Tally}
 use Rattle.replay.specs.declared.Tallies.{Tallies}
 use Rattle.replay.specs.Case.{Whole}
@@ -18,18 +21,15 @@ Faultless t = (t.climb.mismatches ≡ 0) × (t.lex.mismatches ≡ 0)
 abbrev pub CanGrow : Tallies → Type 0
 CanGrow t = (n : ℕ) × (n + 1 < 2 ^ 64) × Few t n
 
--- one more case is counted, and a mismatch where it does not hold
+-- one more case is counted, and one more mismatch where it does not hold
 pub record OneMore (t t' : Tally) (held : Bool) : Type 0 where
   pub cases : t'.cases ≡ t.cases + 1
-  pub mismatches : t'.mismatches ≤ t.mismatches + 1
-  pub kept : t.mismatches ≤ t'.mismatches
-  pub faultless : t'.mismatches ≡ 0 → held ≡ true
+  pub mismatches : t'.mismatches ≡ t.mismatches + pick held 0 1
 
--- the same of the tallies: where no mismatch is counted, then or before, the case held
-pub record Counted (t t' : Tallies) (held : Bool) : Type 0 where
-  pub few : (n : ℕ) → Few t n → Few t' (n + 1)
-  pub kept : Faultless t' → Faultless t
-  pub faultless : Faultless t' → held ≡ true
+-- one more case of an entry is counted, and nothing of the other
+abbrev pub Counted : Entry → Tallies → Tallies → Bool → Type 0
+Counted Climb t t' held = OneMore t.climb t'.climb held × (t'.lex ≡ t.lex)
+Counted Lex t t' held = (t'.climb ≡ t.climb) × OneMore t.lex t'.lex held
 
 -- the case of n bytes at `at`
 abbrev pub case_at : List ℕ → ℕ → ℕ → List ℕ

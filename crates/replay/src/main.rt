@@ -185,7 +185,7 @@ impl Tallies {
 
     fn count(&mut self, entry: Entry, held: bool)
         requires { CanGrow self.old }
-        ensures { Counted self.old self.new held }
+        ensures { Counted entry self.old self.new held }
     {
         match entry {
             Entry::Climb => self.climb.count(held),

@@ -10,9 +10,6 @@ use Rattle.climber.proofs.+climb1.Goals.{then-tight, else-tight}
 pub loop-row-init : goal.loop-row-init
 loop-row-init t c = begin _ _ _ _ c.requires.0
 
-pub tight-requires : goal.tight-requires
-tight-requires t c = c.loop-row.invariant.high
-
 pub least-least-requires : goal.least-least-requires
 least-least-requires t c = (tight-yes _ _ _ (sym c.tight.ensures ∙ c.loop-row-test.true)).0
 

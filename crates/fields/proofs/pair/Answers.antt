@@ -6,4 +6,4 @@ use Rattle.fields.proofs.pair.Goals as goal
 
 pub returns : goal.returns
 unfolding field number
-returns c = refl
+returns c = rw (c.number.ensures, c.number-2.ensures) refl
