@@ -7,6 +7,7 @@ pub mod Words
 pub mod Appends
 pub mod Nums
 pub mod Syms
+pub mod Tags
 pub mod Blanks
 pub mod Lines
 pub mod Skips

@@ -1,5 +1,5 @@
 -- What the functions of the crate promise to one another: the value that a definition says, with the bounds that a caller needs.
-use Rattle.std.specs.Prelude.{◌≡◌, Bool, false, cond, not, List, [], ◌∷◌, ℕ, ◌+◌, ◌-◌, ◌*◌, ◌≤◌, ◌<◌, length, ltb, eqb, Result, Ok, Err, IfOk}
+use Rattle.std.specs.Prelude.{◌≡◌, Bool, false, cond, not, List, [], ◌∷◌, ℕ, ◌+◌, ◌-◌, ◌*◌, ◌≤◌, ◌<◌, length, ltb, eqb, Option, Some, None, Result, Ok, Err, IfOk}
 use Rattle.text.specs.Space.{white_space}
 use Rattle.fields.specs.Field.{field}
 use Rattle.fields.specs.Room.{overlay}
@@ -13,12 +13,29 @@ use Rattle.lexer.specs.Lex.{text_byte, text, quote}
 use Rattle.lexer.specs.declared.put.Expected.{Expected}
 use Rattle.lexer.specs.declared.put.Expected.TheVariants.{Digit, Ident, Closer, Escape, Unicode, Any}
 use Rattle.lexer.specs.declared.put.Room.{Room}
+use Rattle.lexer.specs.declared.token.Tag.{Tag}
+use Rattle.lexer.specs.declared.token.Tag.TheVariants.{Word, Var, Fmt, Num, Sym, Str, Block, Text}
 use Rattle.lexer.specs.declared.scan.TooDeep.{TooDeep}
 
 -- the byte at a place; one that is no 0 stands in the source
 pub record Byte (s : List ℕ) (at r : ℕ) : Type 0 where
   pub is : r ≡ byte s at
   pub within : at + 1 ≤ length s + (1 - r)
+
+-- the number of a tag, and 0 for none
+abbrev pub tag_of : Tag → ℕ
+tag_of Word = 0x01
+tag_of Var = 0x02
+tag_of Fmt = 0x03
+tag_of Num = 0x04
+tag_of Sym = 0x05
+tag_of Str = 0x06
+tag_of Block = 0x07
+tag_of Text = 0x08
+
+abbrev pub tag_at : Option Tag → ℕ
+tag_at None = 0
+tag_at (Some tag) = tag_of tag
 
 -- a closure that tests a byte as p does
 abbrev pub Tests : (ℕ → Bool → Type 0) → (ℕ → Bool) → Type 0

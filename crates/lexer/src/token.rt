@@ -2,8 +2,30 @@
 // lent beside it.
 ghost use Rattle.std.specs.Prelude.{◌≡◌};
 ghost use Rattle.lexer.specs.Found.{as_str, opt_as_str};
+ghost use Rattle.lexer.specs.Meets.{tag_of};
 
 use crate::part;
+
+// What a token is that has a start and a length, by the tags that a listing gives these.
+#[derive(Clone, Copy)]
+pub enum Tag {
+    Word = 1,
+    Var = 2,
+    Fmt = 3,
+    Num = 4,
+    Sym = 5,
+    Str = 6,
+    Block = 7,
+    Text = 8,
+}
+
+impl Tag {
+    pub fn number(self) -> u8
+        ensures { result ≡ tag_of self }
+    {
+        self as u8
+    }
+}
 
 // Where a token starts in its text, and how many bytes it has.
 #[derive(Clone, Copy)]
