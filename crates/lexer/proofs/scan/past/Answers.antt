@@ -1,7 +1,6 @@
 -- `scan::past` meets its contract, at whatever class the test is of. Assumes nothing.
 use mathlib.Core.Path.{sym, ◌∙◌}
 use Rattle.lexer.proofs.Past.{more, stop, all}
-use native.Mathlib.Omega.{arith}
 use borrow.Author.Rules.{rules}
 use Rattle.lexer.proofs.scan.past.Goals as goal
 
