@@ -1,16 +1,16 @@
 -- Four hex digits. Assumes nothing.
 use mathlib.Core.Path.{◌≡◌, refl, sym, ap, ◌∙◌}
-use mathlib.Core.Bool.{true, false}
+use mathlib.Core.Bool.{Bool, true, false}
 use mathlib.Core.List.{List}
-use Prim.Native.Nat.{ℕ, zero, suc, ◌+◌, ◌-◌, ◌*◌, ◌^◌, ◌≤◌, ◌<◌}
+use Prim.Native.Nat.{ℕ, zero, suc, ◌+◌, ◌*◌, ◌^◌, ◌≤◌, ◌<◌}
 use native.Mathlib.Numerals.{add-one}
 use native.Mathlib.Nat.{add-zero}
 use native.Mathlib.Omega.{arith}
 use lib.ListN.{length}
-use borrow.Author.Tests.{lt-ltb, le-ltb}
+use Rattle.std.proofs.Common.{Some, None, if◌then◌else◌}
 use Rattle.lexer.specs.Scan.{byte, past}
 use Rattle.lexer.specs.Escape.{hex_digit, hex, hexes}
-use Rattle.lexer.specs.Meets.{Byte, Hexed, Coded}
+use Rattle.lexer.specs.Meets.{Byte, Four, Fewer}
 use Rattle.lexer.proofs.Past.{past_more, past-here, past-low}
 use Rattle.lexer.proofs.Scans.{some}
 
@@ -18,13 +18,20 @@ no_digit : hex_digit 0 ≡ false
 unfolding hex_digit
 no_digit = refl
 
-few : (i : ℕ) → i ≤ 4 → 16 ^ i ≤ 65536
+few : (i : ℕ) → i < 4 → 16 ^ i ≤ 4096
 few zero h = omega arith
 few (suc zero) h = omega arith
 few (suc (suc zero)) h = omega arith
 few (suc (suc (suc zero))) h = omega arith
-few (suc (suc (suc (suc zero)))) h = omega arith
-few (suc (suc (suc (suc (suc i))))) h = absurd (omega arith)
+few (suc (suc (suc (suc i)))) h = absurd (omega arith)
+
+digit-is : (t : Bool) (v w : ℕ) → Some v ≡ (if t then Some w else None) → (t ≡ true) × (v ≡ w)
+digit-is true v w e = (refl, cc)
+digit-is false v w e = cc
+
+no_digit-is : (t : Bool) (w : ℕ) → None ≡ (if t then Some w else None) → t ≡ false
+no_digit-is true w e = cc
+no_digit-is false w e = refl
 
 -- i digits were read
 pub record Digits (s : List ℕ) (at code i : ℕ) : Type 0 where
@@ -39,39 +46,35 @@ unfolding hexes
 digits-start s at h = record { is = refl; small = omega arith; run = rw add-zero; count = omega arith; high = omega arith }
 
 module _ (s : List ℕ) (at code i : ℕ) (g : Digits s at code i) where
-  pub digits-small : code < 65536
-  digits-small = omega (arith, g.small, few i g.count)
+  pub digits-small : i < 4 → code < 4096
+  digits-small l = omega (arith, g.small, few i l)
 
-  module _ (b v : ℕ) (k : Byte s (at + i) b) (h : Hexed b v) where
-    is_digit : (v ≡ 16 → ⊥) → hex_digit b ≡ true
-    is_digit n = h.is ∙ lt-ltb v 16 (omega (arith, h.top))
+  module _ (b : ℕ) (k : Byte s (at + i) b) where
+    module _ (v : ℕ) (h : Some v ≡ (if hex_digit b then Some (hex b) else None)) where
+      digit-in : at + i < length s
+      digit-in = omega (arith, k.within, some hex_digit no_digit b (digit-is (hex_digit b) v (hex b) h).0)
 
-    pub digit-in : (v ≡ 16 → ⊥) → at + i < length s
-    digit-in n = omega (arith, k.within, some hex_digit no_digit b (is_digit n))
+      pub digit-more : v < 16 → i < 4 → Digits s at (code * 16 + v) (i + 1)
+      unfolding hexes
+      digit-more z l =
+          let d = digit-is (hex_digit b) v (hex b) h in
+          let e : at + (i + 1) ≡ at + i + 1 = omega arith in
+          let t : hex_digit (byte s (at + i)) ≡ true = ap hex_digit (sym k.is) ∙ d.0 in
+          let w : v ≡ hex (byte s (at + i)) = d.1 ∙ ap hex k.is in
+          record {
+            is = rw add-one (omega (arith, g.is, w));
+            small = rw add-one (omega (arith, g.small));
+            run = rw e (sym (past_more hex_digit s (at + i) digit-in t) ∙ g.run);
+            count = omega arith;
+            high = omega (arith, digit-in);
+          }
 
-    pub digit-more : i < 4 → (v ≡ 16 → ⊥) → Digits s at (code * 16 + v) (i + 1)
-    unfolding hexes
-    digit-more l n =
-        let e : at + (i + 1) ≡ at + i + 1 = omega arith in
-        let t : hex_digit (byte s (at + i)) ≡ true = ap hex_digit (sym k.is) ∙ is_digit n in
-        let w : v ≡ hex (byte s (at + i)) = h.value (omega (arith, h.top)) ∙ ap hex k.is in
-        record {
-          is = rw add-one (omega (arith, g.is, w));
-          small = rw add-one (omega (arith, g.small, h.top));
-          run = rw e (sym (past_more hex_digit s (at + i) (digit-in n) t) ∙ g.run);
-          count = omega arith;
-          high = omega (arith, digit-in n);
-        }
+    pub digit-stop : i < 4 → None ≡ (if hex_digit b then Some (hex b) else None) → Fewer s at (at + i)
+    digit-stop l h =
+        let f : hex_digit (byte s (at + i)) ≡ false = ap hex_digit (sym k.is) ∙ no_digit-is (hex_digit b) (hex b) h in
+        record { is = sym (past-here hex_digit s (at + i) f) ∙ g.run; few = omega arith; low = omega arith; high = g.high }
 
-    pub digit-stop : i < 4 → v ≡ 16 → Coded s at (record { at = at + i; code = code })
-    digit-stop l e =
-        let f : hex_digit (byte s (at + i)) ≡ false = ap hex_digit (sym k.is) ∙ h.is ∙ le-ltb v 16 (omega arith) in
-        let p : past hex_digit s at ≡ at + i = sym g.run ∙ past-here hex_digit s (at + i) f in
-        let j : at + i - at ≡ i = omega arith in
-        record { is = omega arith; code = rw j g.is; small = digits-small; low = omega arith; few = omega arith; high = g.high }
-
-  pub digits-all : 4 ≤ i → Coded s at (record { at = at + i; code = code })
+  pub digits-all : 4 ≤ i → Four s at code
   digits-all l =
-      let p : at + i ≤ past hex_digit s at = omega (arith, g.run, past-low hex_digit s (at + i)) in
-      let j : at + i - at ≡ i = omega arith in
-      record { is = omega (arith, g.count); code = rw j g.is; small = digits-small; low = omega arith; few = omega (arith, g.count); high = g.high }
+      let j : i ≡ 4 = omega (arith, g.count) in
+      record { is = g.is ∙ ap (λ (n : ℕ). hexes s at n) j; run = omega (arith, j, g.run, past-low hex_digit s (at + i)); high = omega (arith, j, g.high) }

@@ -7,6 +7,7 @@ pub mod Words
 pub mod Appends
 pub mod Nums
 pub mod Syms
+pub mod Tags
 pub mod Blanks
 pub mod Lines
 pub mod Skips
@@ -19,4 +20,3 @@ pub mod Entries
 pub mod Wholes
 pub mod Pieces
 pub mod Members
-pub mod Parts

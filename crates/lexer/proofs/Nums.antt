@@ -2,6 +2,7 @@
 use mathlib.Core.Path.{◌≡◌, refl, sym, ap, ◌∙◌}
 use mathlib.Core.Bool.{true}
 use mathlib.Core.List.{List, [], ◌∷◌}
+use mathlib.Core.Logic.{◌⊎◌, inl, inr}
 use Prim.Native.Nat.{ℕ, ◌+◌, ◌≤◌}
 use native.Mathlib.Omega.{arith}
 use lib.ListN.{length}
@@ -14,6 +15,10 @@ use Rattle.lexer.specs.declared.put.Room.{Room}
 use Rattle.lexer.proofs.Puts.{put_then}
 use Rattle.lexer.proofs.Appends.{errors-append}
 use Rattle.lexer.proofs.Scans.{hit, miss, clean, there, missed, from}
+
+an-e : (b : ℕ) → (b ≡ 0x45) ⊎ (b ≡ 0x65) → one_of (0x65 ∷ 0x45 ∷ []) b ≡ true
+an-e b (inl e) = rw e
+an-e b (inr e) = rw e
 
 module _ (s : List ℕ) (at : ℕ) (e : Room) where
   pub digits-missed : (a : ℕ) (e' : Room) → Reaches (past digit s at) s at a → a ≡ at → Erred Expect.digit at e e' → Scans (digits1 s at) s at 10 e e' a
@@ -35,16 +40,16 @@ module _ (s : List ℕ) (at : ℕ) (e : Room) where
   unfolding fraction
   fraction-none b g n h = rw (miss s at b 0x2E g n) (here h)
 
-  pub exponent-there : (v b g r : ℕ) (e' : Room) → Byte s at b → b ≡ v → one_of (0x65 ∷ 0x45 ∷ []) v ≡ true → Reaches (optional (0x2B ∷ 0x2D ∷ []) s (at + 1)) s (at + 1) g
+  pub exponent-there : (b g r : ℕ) (e' : Room) → Byte s at b → (b ≡ 0x45) ⊎ (b ≡ 0x65) → Reaches (optional (0x2B ∷ 0x2D ∷ []) s (at + 1)) s (at + 1) g
       → Scans (digits1 s g) s g 10 e e' r → Scans (exponent s at) s at 0 e e' r
   unfolding exponent
-  exponent-there v b g r e' i j k o q =
-      let m : one_of (0x65 ∷ 0x45 ∷ []) (byte s at) ≡ true = ap (λ (n : ℕ). one_of (0x65 ∷ 0x45 ∷ []) n) (sym i.is ∙ j) ∙ k in
+  exponent-there b g r e' i j o q =
+      let m : one_of (0x65 ∷ 0x45 ∷ []) (byte s at) ≡ true = ap (λ (n : ℕ). one_of (0x65 ∷ 0x45 ∷ []) n) (sym i.is) ∙ an-e b j in
       rw (m, ← o.is) (from s at e (digits1 s g) g 10 0 e' r q (omega (arith, o.low)) (omega (arith, o.low)))
 
-  pub exponent-none : (b : ℕ) → Byte s at b → (b ≡ 0x65 → ⊥) → (b ≡ 0x45 → ⊥) → at ≤ length s → Scans (exponent s at) s at 0 e e at
+  pub exponent-none : (b : ℕ) → Byte s at b → ((b ≡ 0x45) ⊎ (b ≡ 0x65) → ⊥) → at ≤ length s → Scans (exponent s at) s at 0 e e at
   unfolding exponent
-  exponent-none b g n m h = rw (miss s at b 0x65 g n, miss s at b 0x45 g m) (here h)
+  exponent-none b g n h = rw (miss s at b 0x65 g (λ k. n (inr k)), miss s at b 0x45 g (λ k. n (inl k))) (here h)
 
 -- a fraction, and then an exponent
 pub number_is : (s : List ℕ) (at a f r : ℕ) (e e₁ e₂ : Room) → Reaches (past digit s at) s at a → Scans (fraction s a) s a 0 e e₁ f

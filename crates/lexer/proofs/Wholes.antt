@@ -1,6 +1,6 @@
 -- The whole source: editions, top tokens, and what follows them. Assumes nothing.
 use mathlib.Core.Path.{◌≡◌, refl, subst, ◌∙◌}
-use mathlib.Core.List.{List, [], ◌∷◌, ◌++◌}
+use mathlib.Core.List.{List, ◌++◌}
 use Prim.Native.Nat.{ℕ, suc, ◌+◌, ◌-◌, ◌*◌, ◌≤◌, ◌<◌}
 use native.Mathlib.Omega.{arith}
 use Rattle.std.specs.Prelude.{Result, Ok, Err}
@@ -8,7 +8,7 @@ use lib.ListN.{length, length-append}
 use borrow.Author.Tests.{lt-ltb, le-ltb}
 use Rattle.fields.specs.Number.{number}
 use Rattle.fields.specs.Field.{field}
-use Rattle.fields.specs.Room.{overlay, overlay-append}
+use Rattle.fields.specs.Room.{overlay-append}
 use Rattle.lexer.specs.Token.{Expect}
 use Rattle.lexer.specs.Read.{Read, read, deep}
 use Rattle.lexer.specs.Listing.{edition}

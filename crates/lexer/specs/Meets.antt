@@ -1,25 +1,41 @@
 -- What the functions of the crate promise to one another: the value that a definition says, with the bounds that a caller needs.
-use Rattle.std.specs.Prelude.{◌≡◌, Bool, false, cond, not, List, [], ◌∷◌, ℕ, suc, ◌+◌, ◌-◌, ◌*◌, ◌≤◌, ◌<◌, min, length, ltb, eqb, Result, Ok, Err, IfOk}
+use Rattle.std.specs.Prelude.{◌≡◌, Bool, false, cond, not, List, [], ◌∷◌, ℕ, ◌+◌, ◌-◌, ◌*◌, ◌≤◌, ◌<◌, length, ltb, eqb, Option, Some, None, Result, Ok, Err, IfOk}
 use Rattle.text.specs.Space.{white_space}
 use Rattle.fields.specs.Field.{field}
 use Rattle.fields.specs.Room.{overlay}
 use Rattle.lexer.specs.Token.{Tokens, Error, Expect, missing}
 use Rattle.lexer.specs.Scan.{byte, past, Scan}
 use Rattle.lexer.specs.Space.{space}
-use Rattle.lexer.specs.Escape.{hex_digit, hex, hexes}
+use Rattle.lexer.specs.Escape.{hex_digit, hexes}
 use Rattle.lexer.specs.Listing.{edition, pair, tokens_bytes, errors_bytes}
 use Rattle.lexer.specs.Read.{Read, read, deep}
 use Rattle.lexer.specs.Lex.{text_byte, text, quote}
 use Rattle.lexer.specs.declared.put.Expected.{Expected}
 use Rattle.lexer.specs.declared.put.Expected.TheVariants.{Digit, Ident, Closer, Escape, Unicode, Any}
 use Rattle.lexer.specs.declared.put.Room.{Room}
+use Rattle.lexer.specs.declared.token.Tag.{Tag}
+use Rattle.lexer.specs.declared.token.Tag.TheVariants.{Word, Var, Fmt, Num, Sym, Str, Block, Text}
 use Rattle.lexer.specs.declared.scan.TooDeep.{TooDeep}
-use Rattle.lexer.specs.declared.escape.Code.{Code}
 
 -- the byte at a place; one that is no 0 stands in the source
 pub record Byte (s : List ℕ) (at r : ℕ) : Type 0 where
   pub is : r ≡ byte s at
   pub within : at + 1 ≤ length s + (1 - r)
+
+-- the number of a tag, and 0 for none
+abbrev pub tag_of : Tag → ℕ
+tag_of Word = 0x01
+tag_of Var = 0x02
+tag_of Fmt = 0x03
+tag_of Num = 0x04
+tag_of Sym = 0x05
+tag_of Str = 0x06
+tag_of Block = 0x07
+tag_of Text = 0x08
+
+abbrev pub tag_at : Option Tag → ℕ
+tag_at None = 0
+tag_at (Some tag) = tag_of tag
 
 -- a closure that tests a byte as p does
 abbrev pub Tests : (ℕ → Bool → Type 0) → (ℕ → Bool) → Type 0
@@ -90,20 +106,22 @@ pub record Puts (n : ℕ) (a : Room) (bs : List ℕ) (b : Room) : Type 0 where
   pub size : b.next ≡ a.next + n
   pub put : Put a bs b
 
--- the value of a hex digit, or 16
-pub record Hexed (b r : ℕ) : Type 0 where
-  pub is : hex_digit b ≡ ltb r 16
-  pub value : r < 16 → r ≡ hex b
-  pub top : r ≤ 16
+-- four hex digits stand at a place, and their number
+pub record Four (s : List ℕ) (at code : ℕ) : Type 0 where
+  pub is : code ≡ hexes s at 4
+  pub run : at + 4 ≤ past hex_digit s at
+  pub high : at + 4 ≤ length s
 
--- hex digits that were read
-pub record Coded (s : List ℕ) (at : ℕ) (r : Code) : Type 0 where
-  pub is : r.at ≡ min (past hex_digit s at) (at + 4)
-  pub code : r.code ≡ hexes s at (r.at - at)
-  pub small : r.code < 65536
-  pub low : at ≤ r.at
-  pub few : r.at ≤ at + 4
-  pub high : r.at ≤ length s
+-- the place where one of four hex digits is missing
+pub record Fewer (s : List ℕ) (at place : ℕ) : Type 0 where
+  pub is : place ≡ past hex_digit s at
+  pub few : place < at + 4
+  pub low : at ≤ place
+  pub high : place ≤ length s
+
+abbrev pub Coded : List ℕ → ℕ → Result ℕ ℕ → Type 0
+Coded s at (Ok code) = Four s at code
+Coded s at (Err place) = Fewer s at place
 
 -- what was read, put into the rooms of tokens and of errors
 pub record Found (at : ℕ) (ts : Tokens) (es : List Error) (t t' e e' : Room) (r : ℕ) : Type 0 where

@@ -3,6 +3,9 @@ ghost use Rattle.std.specs.Prelude.{◌≡◌};
 ghost use Rattle.lexer.specs.Word.{letter, digit, word_byte};
 ghost use Rattle.lexer.specs.Sym.{operator, follows};
 ghost use Rattle.lexer.specs.Kind.{kind};
+ghost use Rattle.lexer.specs.Meets.{tag_at};
+
+use crate::token::Tag;
 
 // [a-zA-Z_]
 #[tactic(auto, unfolding(crate::specs::Word::letter))]
@@ -50,24 +53,24 @@ pub fn operator(b: u8) -> bool
     b == b'-' || follows(b)
 }
 
-// The tag of the token that starts with the byte; 0 where none does.
+// The tag of the token that starts with the byte, if one does.
 #[tactic(auto, unfolding(crate::specs::Kind::kind, crate::specs::Word::letter, crate::specs::Word::digit, crate::specs::Sym::operator))]
-pub fn kind(b: u8) -> u8
-    ensures { result ≡ kind b }
+pub fn kind(b: u8) -> Option<Tag>
+    ensures { tag_at result ≡ kind b }
 {
     if letter(b) {
-        return 1;
+        return Some(Tag::Word);
     }
     if digit(b) {
-        return 4;
+        return Some(Tag::Num);
     }
     match b {
-        b'.' | b',' | b':' | b';' | b'?' => 5,
-        b'|' | b'=' | b'+' | b'-' | b'*' | b'/' | b'<' | b'>' | b'!' | b'%' => 5,
-        b'(' | b'[' | b'{' => 7,
-        b'"' => 6,
-        b'$' => 2,
-        b'@' => 3,
-        _ => 0,
+        b'.' | b',' | b':' | b';' | b'?' => Some(Tag::Sym),
+        b'|' | b'=' | b'+' | b'-' | b'*' | b'/' | b'<' | b'>' | b'!' | b'%' => Some(Tag::Sym),
+        b'(' | b'[' | b'{' => Some(Tag::Block),
+        b'"' => Some(Tag::Str),
+        b'$' => Some(Tag::Var),
+        b'@' => Some(Tag::Fmt),
+        _ => None,
     }
 }

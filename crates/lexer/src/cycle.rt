@@ -3,7 +3,7 @@ ghost use Rattle.std.specs.Prelude.{◌≡◌, ◌+◌, ◌-◌, ◌*◌, ◌≤
 ghost use Rattle.lexer.specs.Scan.{byte, past};
 ghost use Rattle.lexer.specs.Kind.{kind, plain};
 ghost use Rattle.lexer.specs.Lex.{leaf_at, closing, close, text_byte, tokens, token, block, str, escape};
-ghost use Rattle.lexer.specs.Meets.{Reaches, Within, Scans, Ready, Reads, Lexes, Texts, Quotes};
+ghost use Rattle.lexer.specs.Meets.{Reaches, Within, Scans, Ready, Reads, Lexes, Texts, Quotes, tag_of};
 
 use crate::class::kind;
 use crate::escape::simple;
@@ -12,25 +12,26 @@ use crate::put::{Expected, Room};
 use crate::scan::{TooDeep, byte_at, past};
 use crate::space::skip;
 use crate::sym::sym;
+use crate::token::Tag;
 use crate::word::{ident1, mod_then_ident};
 
 // The end of a Word, Num, Sym, Var or Fmt.
-fn plain(s: &[u8], tag: u8, at: usize, err: &mut Room<'_>) -> usize
+fn plain(s: &[u8], tag: Tag, at: usize, err: &mut Room<'_>) -> usize
     requires { Within s.now at err.old.next × (at < length s.now) }
-    ensures { Scans (plain tag s.now at) s.now (at + 1) 10 err.old err.new result }
+    ensures { Scans (plain (tag_of tag) s.now at) s.now (at + 1) 10 err.old err.new result }
 {
     match tag {
-        1 => mod_then_ident(s, at + 1, err),
-        4 => num(s, at + 1, err),
-        5 => sym(s, at),
+        Tag::Word => mod_then_ident(s, at + 1, err),
+        Tag::Num => num(s, at + 1, err),
+        Tag::Sym => sym(s, at),
         _ => ident1(s, at + 1, err),
     }
 }
 
 // One of these tokens.
-fn leaf(s: &[u8], tag: u8, at: usize, out: &mut Room<'_>, err: &mut Room<'_>) -> usize
+fn leaf(s: &[u8], tag: Tag, at: usize, out: &mut Room<'_>, err: &mut Room<'_>) -> usize
     requires { Ready s.now at out.old err.old × (at < length s.now) }
-    ensures { Reads (leaf_at tag s.now at) s.now 1 0 at out.old out.new err.old err.new result }
+    ensures { Reads (leaf_at (tag_of tag) s.now at) s.now 1 0 at out.old out.new err.old err.new result }
 {
     let end = plain(s, tag, at, err);
     out.put_leaf(tag, at, end - at);
@@ -54,7 +55,7 @@ fn close(s: &[u8], opener: u8, at: usize, out: &mut Room<'_>, err: &mut Room<'_>
     ensures { Reads (close opener s.now at) s.now 0 10 at out.old out.new err.old err.new result }
 {
     if byte_at(s, at) == closing(opener) {
-        out.put_leaf(5, at, 1);
+        out.put_leaf(Tag::Sym, at, 1);
         return at + 1;
     }
     err.put_error(Expected::Closer(opener), at);
@@ -105,10 +106,9 @@ pub fn tokens(
     let mut p = from;
     loop {
         let at = skip(s, p);
-        let tag = kind(byte_at(s, at));
-        if tag == 0 {
+        let Some(tag) = kind(byte_at(s, at)) else {
             return Ok(at);
-        }
+        };
         p = token(s, n, tag, at, out, err)?;
     }
 }
@@ -118,17 +118,17 @@ pub fn tokens(
 fn token(
     s: &[u8],
     n: usize,
-    tag: u8,
+    tag: Tag,
     at: usize,
     out: &mut Room<'_>,
     err: &mut Room<'_>,
 ) -> Result<usize, TooDeep>
-    requires { Ready s.now at out.old err.old × (at < length s.now) × (tag ≡ kind (byte s.now at)) }
+    requires { Ready s.now at out.old err.old × (at < length s.now) × (tag_of tag ≡ kind (byte s.now at)) }
     ensures { Lexes (λ k. token k s.now n at) (3 * (length s.now - at) + 2) s.now 1 0 at out.old out.new err.old err.new result }
 {
     match tag {
-        6 => str(s, n, at, out, err),
-        7 => block(s, n, at, out, err),
+        Tag::Str => str(s, n, at, out, err),
+        Tag::Block => block(s, n, at, out, err),
         _ => Ok(leaf(s, tag, at, out, err)),
     }
 }
@@ -152,7 +152,7 @@ fn block(
     out.next += 7;
     let p = tokens(s, n - 1, at + 1, out, err)?;
     let end = close(s, byte_at(s, at), skip(s, p), out, err);
-    out.enclose(left, 7, at, end - at);
+    out.enclose(left, Tag::Block, at, end - at);
     Ok(end)
 }
 
@@ -178,7 +178,7 @@ fn str(
         let q = text(s, p, out);
         if byte_at(s, q) != b'\\' {
             let end = quote(s, q, err);
-            out.enclose(left, 6, at, end - at);
+            out.enclose(left, Tag::Str, at, end - at);
             return Ok(end);
         }
         p = escape(s, n - 1, q + 1, out, err)?;

@@ -1,73 +1,45 @@
 // Escapes that nest nothing.
-ghost use Rattle.std.specs.Prelude.{◌≡◌, ◌+◌, ◌≤◌, ◌<◌, length};
-ghost use Rattle.lexer.specs.Escape.{named, surrogate, unicode, simple};
-ghost use Rattle.lexer.specs.Meets.{Hexed, Coded, Ready, Reads};
+ghost use Rattle.std.specs.Prelude.{◌≡◌, ◌==◌, ◌+◌, ◌≤◌, ◌<◌, if◌then◌else◌, length, IfSome};
+ghost use Rattle.lexer.specs.Escape.{named, hex_digit, hex, surrogate, unicode, simple};
+ghost use Rattle.lexer.specs.Meets.{Coded, Ready, Reads};
 
 use crate::put::{Expected, Room};
 use crate::scan::byte_at;
 
-// The value of a hex digit; 16 where the byte is none.
-fn hex(b: u8) -> usize
-    ensures { Hexed b result }
+// The value of a hex digit, if the byte is one.
+#[tactic(auto, unfolding(crate::specs::Escape::hex_digit, crate::specs::Escape::hex))]
+fn hex(b: u8) -> Option<u16>
+    ensures value { result ≡ (if hex_digit b then Some (hex b) else None) }
+    ensures small { IfSome result (λ v. v < 16) }
 {
-    if b < b'0' {
-        return 16;
+    match b {
+        b'0'..=b'9' => Some(u16::from(b - b'0')),
+        b'A'..=b'F' => Some(u16::from(b - b'A' + 10)),
+        b'a'..=b'f' => Some(u16::from(b - b'a' + 10)),
+        _ => None,
     }
-    if b <= b'9' {
-        return (b - 0x30) as usize;
-    }
-    if b < b'A' {
-        return 16;
-    }
-    if b <= b'F' {
-        return (b - 0x37) as usize;
-    }
-    if b < b'a' {
-        return 16;
-    }
-    if b <= b'f' {
-        return (b - 0x57) as usize;
-    }
-    16
 }
 
-// Hex digits that were read, four at the most: the place behind them, and their number.
-#[derive(Clone, Copy)]
-pub struct Code {
-    pub at: usize,
-    pub code: usize,
-}
-
-fn hexes(s: &[u8], at: usize) -> Code
+// The number that four hex digits write, or the place where one of them is missing.
+fn hexes(s: &[u8], at: usize) -> Result<u16, usize>
     requires { at ≤ length s.now }
     ensures { Coded s.now at result }
 {
     let mut code = 0;
-    let mut i = 0;
-    while i < 4 {
-        let v = hex(byte_at(s, at + i));
-        if v == 16 {
-            return Code {
-                at: at + i,
-                code: code,
-            };
-        }
+    for i in 0..4 {
+        let Some(v) = hex(byte_at(s, at + i)) else {
+            return Err(at + i);
+        };
         code = code * 16 + v;
-        i += 1;
     }
-    Code {
-        at: at + i,
-        code: code,
-    }
+    Ok(code)
 }
 
-fn surrogate(code: usize) -> bool
+#[tactic(auto, unfolding(crate::specs::Escape::surrogate))]
+fn surrogate(code: u16) -> bool
     ensures { result ≡ surrogate code }
 {
-    if code < 0xD800 {
-        return false;
-    }
-    code <= 0xDFFF
+    matches!(code, 0xD800..=0xDFFF)
 }
 
 // Behind the `u`.
@@ -75,33 +47,35 @@ fn unicode(s: &[u8], at: usize, out: &mut Room<'_>, err: &mut Room<'_>) -> usize
     requires { Ready s.now at out.old err.old }
     ensures { Reads (unicode s.now at) s.now 0 10 at out.old out.new err.old err.new result }
 {
-    let c = hexes(s, at);
-    if c.at < at + 4 {
-        err.put_error(Expected::Unicode, c.at);
-        return c.at;
+    match hexes(s, at) {
+        Err(place) => {
+            err.put_error(Expected::Unicode, place);
+            place
+        }
+        Ok(code) => {
+            if surrogate(code) {
+                err.put_error(Expected::Unicode, at);
+                return at;
+            }
+            out.put_char(code);
+            at + 4
+        }
     }
-    if surrogate(c.code) {
-        err.put_error(Expected::Unicode, at);
-        return at;
-    }
-    out.put_char(c.code);
-    c.at
 }
 
-// The character that a backslash and the byte stand for; 0 where they stand for none.
-fn named(b: u8) -> usize
-    ensures { (result ≡ named b) × (result < 65536) }
+// The character that a backslash and the byte stand for, if they stand for one.
+#[tactic(auto, unfolding(crate::specs::Escape::named))]
+fn named(b: u8) -> Option<u8>
+    ensures { result ≡ (if named b == 0 then None else Some (named b)) }
 {
     match b {
-        b'n' => 0x0A,
-        b'"' => 0x22,
-        b'\\' => 0x5C,
-        b't' => 0x09,
-        b'r' => 0x0D,
-        b'/' => 0x2F,
-        b'b' => 0x08,
-        b'f' => 0x0C,
-        _ => 0x00,
+        b'n' => Some(b'\n'),
+        b'"' | b'\\' | b'/' => Some(b),
+        b't' => Some(b'\t'),
+        b'r' => Some(b'\r'),
+        b'b' => Some(0x08),
+        b'f' => Some(0x0C),
+        _ => None,
     }
 }
 
@@ -114,11 +88,10 @@ pub fn simple(s: &[u8], at: usize, out: &mut Room<'_>, err: &mut Room<'_>) -> us
     if b == b'u' {
         return unicode(s, at + 1, out, err);
     }
-    let code = named(b);
-    if code == 0 {
+    let Some(code) = named(b) else {
         err.put_error(Expected::Escape, at);
         return at;
-    }
-    out.put_char(code);
+    };
+    out.put_char(u16::from(code));
     at + 1
 }

@@ -31,7 +31,7 @@ use fields::{Listing, Refusal};
 pub use input::Lexer;
 use put::{Expected, Room};
 use scan::TooDeep;
-pub use token::{Found, Token};
+pub use token::Token;
 
 // How many bytes the two listings of a source take.
 #[derive(Clone, Copy)]

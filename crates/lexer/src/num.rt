@@ -46,8 +46,7 @@ fn exponent(s: &[u8], at: usize, err: &mut Room<'_>) -> usize
     ensures { Scans (exponent s.now at) s.now at 0 err.old err.new result }
 {
     match byte_at(s, at) {
-        b'e' => digits1(s, optional(s, at + 1, b'+', b'-'), err),
-        b'E' => digits1(s, optional(s, at + 1, b'+', b'-'), err),
+        b'e' | b'E' => digits1(s, optional(s, at + 1, b'+', b'-'), err),
         _ => at,
     }
 }

@@ -5,19 +5,12 @@ ghost use Rattle.std.specs.Prelude.{◌≡◌, take, drop};
 pub fn after(s: &[u8], n: usize) -> &[u8]
     ensures { result.now ≡ drop n s.now }
 {
-    let end = s.len();
-    if n < end {
-        return &s[n..];
-    }
-    &s[end..]
+    s.get(n..).unwrap_or_default()
 }
 
 // The first n bytes.
 pub fn front(s: &[u8], n: usize) -> &[u8]
     ensures { result.now ≡ take n s.now }
 {
-    if n < s.len() {
-        return &s[..n];
-    }
-    s
+    s.get(..n).unwrap_or(s)
 }

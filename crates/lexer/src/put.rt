@@ -3,7 +3,9 @@ ghost use Rattle.std.specs.Prelude.{◌≡◌, [], ◌∷◌, ◌+◌, ◌*◌, 
 ghost use Rattle.lexer.specs.Token.{one, leaf, char};
 ghost use Rattle.lexer.specs.Lex.{text};
 ghost use Rattle.lexer.specs.Listing.{pair, error_tag, tokens_bytes};
-ghost use Rattle.lexer.specs.Meets.{expect_of, Opened, Put, Puts, Erred, Encloses};
+ghost use Rattle.lexer.specs.Meets.{expect_of, Opened, Put, Puts, Erred, Encloses, tag_of};
+
+use crate::token::Tag;
 
 // What was expected where something else stands, as "Digit" or "Delim also its opener byte".
 #[derive(Clone, Copy)]
@@ -80,19 +82,19 @@ impl<'a> Room<'a> {
     }
 
     // A token with its start and length.
-    pub fn put_leaf(&mut self, tag: u8, start: usize, size: usize)
+    pub fn put_leaf(&mut self, tag: Tag, start: usize, size: usize)
         requires { self.old.next + 7 < 2 ^ 64 }
-        ensures { Puts 7 self.old (tokens_bytes 2 (one (leaf tag start size))) self.new }
+        ensures { Puts 7 self.old (tokens_bytes 2 (one (leaf (tag_of tag) start size))) self.new }
     {
-        self.put_pair(tag, start, size);
+        self.put_pair(tag.number(), start, size);
     }
 
     // A character: what is escaped has two bytes, and two more that are 0.
-    pub fn put_char(&mut self, code: usize)
-        requires { (self.old.next + 7 < 2 ^ 64) × (code < 65536) }
+    pub fn put_char(&mut self, code: u16)
+        requires { self.old.next + 7 < 2 ^ 64 }
         ensures { Puts 7 self.old (tokens_bytes 2 (one (char code))) self.new }
     {
-        self.put_pair(0x0A, code, 0);
+        self.put_pair(0x0A, usize::from(code), 0);
     }
 
     // A text part, unless it is empty.
@@ -101,16 +103,16 @@ impl<'a> Room<'a> {
         ensures { (self.new.next + 10 * from ≤ self.old.next + 10 * to) × Put self.old (tokens_bytes 2 (text from to)) self.new }
     {
         if from < to {
-            self.put_leaf(0x08, from, to - from);
+            self.put_leaf(Tag::Text, from, to - from);
         }
     }
 
     // The end of a string or block, and its record, into the seven bytes that were left for that.
-    pub fn enclose(&mut self, left: usize, tag: u8, start: usize, size: usize)
+    pub fn enclose(&mut self, left: usize, tag: Tag, start: usize, size: usize)
         requires { (self.old.next + 3 < 2 ^ 64) × (left + 7 < 2 ^ 64) }
-        ensures { Encloses tag left start size self.old self.new }
+        ensures { Encloses (tag_of tag) left start size self.old self.new }
     {
         self.put(&[9, 0, 0]);
-        fields::put_pair(self.bytes, left, tag, start, size);
+        fields::put_pair(self.bytes, left, tag.number(), start, size);
     }
 }

@@ -13,12 +13,12 @@ fn blank(s: &[u8], at: usize) -> usize
     ensures { (result ≡ blank s.now at) × (at + result ≤ length s.now) }
 {
     match byte_at(s, at) {
-        b'\t'..=b'\r' | b' ' => 1,
-        0x00..=0x7F => 0,
-        _ => match text::char_at(s, at) {
+        0x80..=0xFF => match text::char_at(s, at) {
             Some(c) if text::white_space(c.code) => c.len,
             _ => 0,
         },
+        b'\t'..=b'\r' | b' ' => 1,
+        _ => 0,
     }
 }
 

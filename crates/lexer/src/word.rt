@@ -33,10 +33,8 @@ pub fn mod_then_ident(s: &[u8], at: usize, err: &mut Room<'_>) -> usize
     ensures { Scans (mod_then_ident s.now at) s.now at 0 err.old err.new result }
 {
     let a = ident0(s, at);
-    if byte_at(s, a) == b':' {
-        if byte_at(s, a + 1) == b':' {
-            return ident1(s, optional(s, a + 2, b'@', b'$'), err);
-        }
+    if byte_at(s, a) == b':' && byte_at(s, a + 1) == b':' {
+        return ident1(s, optional(s, a + 2, b'@', b'$'), err);
     }
     a
 }

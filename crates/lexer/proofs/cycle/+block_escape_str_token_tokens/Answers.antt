@@ -1,8 +1,11 @@
-use mathlib.Core.Path.{ap, ◌∙◌}
+use mathlib.Core.Path.{refl, ap, ◌∙◌}
 use native.Mathlib.Omega.{arith}
 use borrow.Author.Rules.{rules}
 use Rattle.std.proofs.lemmas.Result.{err_from_is_err_and}
 use Rattle.lexer.specs.Kind.{kind}
+use Rattle.lexer.specs.Meets.{tag_of}
+use Rattle.lexer.specs.declared.token.Tag.TheVariants.{Str, Block}
+use Rattle.lexer.proofs.Tags.{same-tag, some-tag}
 use Rattle.lexer.proofs.Members as members
 use Rattle.lexer.proofs.cycle.+block_escape_str_token_tokens.Goals as goal
 
@@ -40,31 +43,33 @@ str-returns-in_err-p t c =
 pub str-loop-err-preserved : goal.str-loop-err-preserved
 str-loop-err-preserved t c = members.str-more _ _ _ _ _ c.requires.1 c.if-n-eq0.false _ _ _ c.loop-err.invariant _ _ c.text-q.ensures _ c.byte_at.ensures c.if-byte_at-ne92.false _ _ _ c.in_ok-p.ensures
 
-pub token-returns-in-6 : goal.token-returns-in-6
-token-returns-in-6 t c = members.token-str _ _ _ _ _ _ _ _ c.requires.2 _ c.in-6.is c.str.ensures
+pub token-returns-in-Str : goal.token-returns-in-Str
+token-returns-in-Str t c = members.token-str _ _ _ _ _ _ _ _ c.requires.2 _ (ap tag_of c.in-Str.is) c.str.ensures
 
-pub token-returns-in-7 : goal.token-returns-in-7
-token-returns-in-7 t c = members.token_block _ _ _ _ _ _ _ _ c.requires.2 _ c.in-7.is c.block.ensures
+pub token-returns-in-Block : goal.token-returns-in-Block
+token-returns-in-Block t c = members.token_block _ _ _ _ _ _ _ _ c.requires.2 _ (ap tag_of c.in-Block.is) c.block.ensures
 
 pub token-returns-in_default : goal.token-returns-in_default
-token-returns-in_default t c = members.token-leaf _ _ _ _ _ _ _ _ c.requires.2 _ (λ e. omega arith) (λ e. omega arith) c.leaf.ensures
+token-returns-in_default t c =
+    let d = c.in_default in
+    members.token-leaf _ _ _ _ _ _ _ _ c.requires.2 _ (λ e. d.not-Str (same-tag _ Str e)) (λ e. d.not-Block (same-tag _ Block e)) c.leaf.ensures
 
-pub tokens-loop-n-init : goal.tokens-loop-n-init
-tokens-loop-n-init t c = members.go _ _ _ _ _ _ c.requires
+pub tokens-loop-tag-init : goal.tokens-loop-tag-init
+tokens-loop-tag-init t c = members.go _ _ _ _ _ _ c.requires
 
-pub tokens-returns-then-tag-eq0 : goal.tokens-returns-then-tag-eq0
-tokens-returns-then-tag-eq0 t c = members.tokens-end _ _ _ _ _ _ _ _ c.loop-n.invariant _ _ _ c.skip-at.ensures c.byte_at.ensures c.kind-tag.ensures c.if-tag-eq0.true
+pub tokens-returns-in_default : goal.tokens-returns-in_default
+tokens-returns-in_default t c = members.tokens-end _ _ _ _ _ _ _ _ c.loop-tag.invariant _ _ 0 c.skip-at.ensures c.byte_at.ensures c.in_default.ensures refl
 
 pub tokens-token-requires : goal.tokens-token-requires
 tokens-token-requires t c =
     let b = c.byte_at.ensures in
-    let k = c.kind-tag.ensures in
-    (search rules, (search rules, omega (arith, b.within, members.kind-some _ (λ z. c.if-tag-eq0.false (k ∙ z))), k ∙ ap kind b.is))
+    let k = c.in-Some.ensures in
+    (search rules, (search rules, omega (arith, b.within, members.kind-some _ (λ z. some-tag _ (k ∙ z))), k ∙ ap kind b.is))
 
 pub tokens-returns-in_err-p : goal.tokens-returns-in_err-p
 tokens-returns-in_err-p t c =
     let p = err_from_is_err_and c.from_residual.result c.from_residual.ensures.1 in
-    rw (p.1, p.2) (members.tokens-deep _ _ _ _ _ _ _ _ c.loop-n.invariant _ _ _ c.skip-at.ensures c.byte_at.ensures c.kind-tag.ensures _ _ c.if-tag-eq0.false _ c.in_err-p.ensures)
+    rw (p.1, p.2) (members.tokens-deep _ _ _ _ _ _ _ _ c.loop-tag.invariant _ _ _ c.skip-at.ensures c.byte_at.ensures c.in-Some.ensures _ _ (some-tag _) _ c.in_err-p.ensures)
 
-pub tokens-loop-n-preserved : goal.tokens-loop-n-preserved
-tokens-loop-n-preserved t c = members.tokens-more _ _ _ _ _ _ _ _ c.loop-n.invariant _ _ _ c.skip-at.ensures c.byte_at.ensures c.kind-tag.ensures _ _ c.if-tag-eq0.false _ c.in_ok-p.ensures
+pub tokens-loop-tag-preserved : goal.tokens-loop-tag-preserved
+tokens-loop-tag-preserved t c = members.tokens-more _ _ _ _ _ _ _ _ c.loop-tag.invariant _ _ _ c.skip-at.ensures c.byte_at.ensures c.in-Some.ensures _ _ (some-tag _) _ c.in_ok-p.ensures

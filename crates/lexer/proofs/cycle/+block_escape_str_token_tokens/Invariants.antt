@@ -2,7 +2,6 @@ use Prim.Native.Nat.{◌-◌}
 use lib.ListN.{length}
 use Rattle.lexer.specs.Lex as lex
 use Rattle.lexer.proofs.Members as members
-use Rattle.lexer.proofs.Readings.{left}
 use Prim.Native.Nat.{◌+◌, ◌-◌, ◌*◌}
 use Rattle.lexer.proofs.cycle.+block_escape_str_token_tokens.Given as goal
 
@@ -27,8 +26,8 @@ invariant-str-loop-err l = members.Going (λ k i. lex.parts k l.s (l.n - 1) i) 1
 abbrev pub decreases-str-loop-err : goal.decreases-str-loop-err
 decreases-str-loop-err l = length l.s - l.p
 
-abbrev pub invariant-tokens-loop-n : goal.invariant-tokens-loop-n
-invariant-tokens-loop-n l = members.Going (λ k i. lex.tokens k l.s l.n i) 3 l.s l.from l.p l.initial.out l.out l.initial.err l.err
+abbrev pub invariant-tokens-loop-tag : goal.invariant-tokens-loop-tag
+invariant-tokens-loop-tag l = members.Going (λ k i. lex.tokens k l.s l.n i) 3 l.s l.from l.p l.initial.out l.out l.initial.err l.err
 
-abbrev pub decreases-tokens-loop-n : goal.decreases-tokens-loop-n
-decreases-tokens-loop-n l = length l.s - l.p
+abbrev pub decreases-tokens-loop-tag : goal.decreases-tokens-loop-tag
+decreases-tokens-loop-tag l = length l.s - l.p

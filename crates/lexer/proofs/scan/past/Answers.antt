@@ -1,7 +1,6 @@
 -- `scan::past` meets its contract, at whatever class the test is of. Assumes nothing.
 use mathlib.Core.Path.{sym, ◌∙◌}
 use Rattle.lexer.proofs.Past.{more, stop, all}
-use native.Mathlib.Omega.{arith}
 use borrow.Author.Rules.{rules}
 use Rattle.lexer.proofs.scan.past.Goals as goal
 
@@ -12,6 +11,4 @@ pub loop-i-preserved : goal.loop-i-preserved
 loop-i-preserved g c = λ p t. more p _ _ _ (c.loop-i.invariant p t) (search rules) (sym (t _ _ c.test.ensures) ∙ c.if-not-test.false)
 
 pub returns : goal.returns
-returns g c = λ p t.
-    let w = all p _ _ _ (c.loop-i.invariant p t) c.loop-i-test.false in
-    record { is = omega (arith, w.is); low = c.requires.place; high = omega arith }
+returns g c = λ p t. all p _ _ _ (c.loop-i.invariant p t) c.loop-i-test.false

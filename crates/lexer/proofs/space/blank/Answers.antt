@@ -7,13 +7,13 @@ use Rattle.lexer.proofs.Blanks.{no-space, a-space, wide-space, no-wide, none-wid
 use borrow.Author.Rules.{rules}
 use Rattle.lexer.proofs.space.blank.Goals as goal
 
-pub returns-in-0-to-127 : goal.returns-in-0-to-127
+pub returns-in_default : goal.returns-in_default
 unfolding white_space spaces
-returns-in-0-to-127 c = no-space _ _ _ c.byte_at.ensures (omega arith) c.requires (grind (arith, common_steps))
+returns-in_default c = no-space _ _ _ c.byte_at.ensures (omega arith) c.requires (grind (arith, common_steps))
 
-pub returns-in-0-to-127-2 : goal.returns-in-0-to-127-2
+pub returns-in_default-2 : goal.returns-in_default-2
 unfolding white_space spaces
-returns-in-0-to-127-2 c = no-space _ _ _ c.byte_at.ensures (omega arith) c.requires (grind (arith, common_steps))
+returns-in_default-2 c = no-space _ _ _ c.byte_at.ensures (omega arith) c.requires (grind (arith, common_steps))
 
 pub returns-in-9-to-13 : goal.returns-in-9-to-13
 unfolding white_space spaces

@@ -4,4 +4,4 @@ use Rattle.lexer.proofs.Puts.{enclosed}
 use Rattle.lexer.proofs.put.Room.enclose.Goals as goal
 
 pub returns : goal.returns
-returns c = enclosed _ _ _ _ _ _ _ c.put.ensures refl refl c.put_pair.ensures.1
+returns c = rw (← c.number.ensures) (enclosed _ _ _ _ _ _ _ c.put.ensures refl refl c.put_pair.ensures.1)

@@ -3,4 +3,4 @@ use Rattle.lexer.proofs.Puts.{put-leaf}
 use Rattle.lexer.proofs.put.Room.put_leaf.Goals as goal
 
 pub returns : goal.returns
-returns c = put-leaf _ _ _ _ _ c.put_pair.ensures
+returns c = rw (← c.number.ensures) (put-leaf _ _ _ _ _ c.put_pair.ensures)
