@@ -9,7 +9,7 @@ use lib.Dec.{leb}
 use lib.ListN.{length, get_or, take, drop}
 use borrow.Author.Tests.{le-leb, lt-leb}
 use Rattle.tree.specs.Leaf.{class, shape, is_leaf_tag, leaf_ok}
-use Rattle.tree.specs.Grammar.{Items, row_at, after, ends}
+use Rattle.tree.specs.Grammar.{Items, dead, row_at, after, ends}
 use Rattle.tree.specs.Rose.{end_of, text_of}
 use Rattle.tree.specs.Scan.{Local, done, step, All, over, here, Inner, next_of}
 use Rattle.tree.proofs.Match.{not-both}
@@ -57,6 +57,15 @@ along-next b e s p i q i' n k a h u m c w =
       yes = λ l. a.yes (step h f (subst (λ (j : ℕ). Local b e (after (row_at i) (class (get_or b q 0))) j) u (subst (λ (y : Items). Local b e y n) g l)));
       no = λ l. subst (λ (y : Items). Local b e y n) (sym g) (subst (λ (j : ℕ). Local b e (after (row_at i) (class (get_or b q 0))) j) (sym u) (row-rest b e (row_at i) q h (a.no l)));
     }
+
+-- what no row can be has no fields
+dead-none : (b : List ℕ) (e q : ℕ) → (g : Items) → g ≡ dead → Local b e g q → ⊥
+unfolding after ends
+dead-none b e q g d (done k v) = not-both (ends g) v (ap ends d)
+dead-none b e q g d (step l m r) = dead-none b e (end_of b q) (after g (class (get_or b q 0))) (ap (λ (y : Items). after y (class (get_or b q 0))) d) r
+
+pub along-dead : (b : List ℕ) (e s p i q k : ℕ) → Along b e s p i q → q < e → k ≡ class (get_or b q 0) → after (row_at i) k ≡ dead → Local b e (row_at s) p → ⊥
+along-dead b e s p i q k a h c d l = dead-none b e (end_of b q) (after (row_at i) (class (get_or b q 0))) (ap (after (row_at i)) (sym c) ∙ d) (row-rest b e (row_at i) q h (a.no l))
 
 pub along-end : (b : List ℕ) (e s p i q : ℕ) (r : Bool) → Along b e s p i q → e ≤ q → r ≡ ends (row_at i) → Decided r (Local b e (row_at s) p)
 along-end b e s p i q true a h u = let k : q ≡ e = omega (arith, a.high) in a.yes (done k (sym u))

@@ -119,9 +119,9 @@ module _ (j it : ℕ) (h : j < 106) (e : it ≡ get_or items j 0) (c : ℕ) wher
           (ap row_at k ∙ here ∙ sym (then ∙ ap (λ (x : Bool). cond x (row_at (j + 1)) (kind (it % 4) (it / 8) (row_at (j + 1)))) f), omega arith)
 
   module _ (q : it / 8 ≡ c → ⊥) where
-    pub at-stop : it % 4 ≡ 0 → row_at 105 ≡ after (row_at j) c
+    pub at-stop : it % 4 ≡ 0 → after (row_at j) c ≡ dead
     unfolding after decode
-    at-stop m = last ∙ sym (ap (λ (g : Items). after g c) (row_cons j it h e) ∙ go (eqb it 0) (eqb it 4))
+    at-stop m = ap (λ (g : Items). after g c) (row_cons j it h e) ∙ go (eqb it 0) (eqb it 4)
       where
         go : (x y : Bool) → after (cond x dead (cond y end (kind (it % 4) (it / 8) (decode (drop (j + 1) items))))) c ≡ dead
         go true y = refl
@@ -169,9 +169,9 @@ not-term n c h = go (eqb n 3)
     go false = refl
 
 -- the code has come to the last item
-pub at_last : (j c : ℕ) → 105 ≤ j → j < 106 → row_at 105 ≡ after (row_at j) c
+pub at_last : (j c : ℕ) → 105 ≤ j → j < 106 → after (row_at j) c ≡ dead
 unfolding after
-at_last j c l h = let q : j ≡ 105 = omega arith in last ∙ sym (ap (λ (i : ℕ). after (row_at i) c) q ∙ ap (λ (g : Items). after g c) last)
+at_last j c l h = let q : j ≡ 105 = omega arith in ap (λ (i : ℕ). after (row_at i) c) q ∙ ap (λ (g : Items). after g c) last
 
 -- ---- may the row end: the table says it at each item
 

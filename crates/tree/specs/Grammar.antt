@@ -1,5 +1,5 @@
 -- What the tables mean, and which fields obey them. Assumes nothing.
-use Rattle.std.specs.Prelude.{ℕ, ◌/◌, ◌%◌, ◌≡◌, List, [], ◌∷◌, Bool, true, false, cond, eqb, drop}
+use Rattle.std.specs.Prelude.{ℕ, ◌/◌, ◌%◌, ◌<◌, ◌≡◌, Option, Some, None, List, [], ◌∷◌, Bool, true, false, cond, eqb, drop}
 use Rattle.tree.specs.Rose.{Rose, Roses, leaf, node, rnil, rcons, tag_of}
 use Rattle.tree.specs.Table.{items}
 use Rattle.tree.specs.Leaf.{class, shape, is_leaf_tag}
@@ -39,6 +39,11 @@ after (one k g) c = cond (eqb k c) g dead
 after (opt k g) c = cond (eqb k c) g (after g c)
 after (many k g) c = cond (eqb k c) (many k g) (after g c)
 after (mix k g) c = cond (eqb k c) (mix k g) (cond (eqb c term) (mix k g) (after g c))
+
+-- the row at r is g, or g is what no row can be
+abbrev pub IsDue : Option ℕ → Items → Type 0
+IsDue None g = g ≡ dead
+IsDue (Some r) g = (row_at r ≡ g) × (r < 106)
 
 -- may the row end here?
 unfoldable pub ends : Items → Bool

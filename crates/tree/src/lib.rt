@@ -12,7 +12,7 @@ ghost use Rattle.fields.specs.Number.{value};
 ghost use Rattle.fields.specs.Refusals.{place_of};
 ghost use Rattle.tree.specs.Leaf.{shape, is_leaf_tag, leaf_ok, text, is_operator};
 ghost use Rattle.tree.specs.Shapes.{number_of, IsShape};
-ghost use Rattle.tree.specs.Grammar.{row_at, after};
+ghost use Rattle.tree.specs.Grammar.{row_at, after, IsDue};
 ghost use Rattle.tree.specs.Rose.{end_of};
 ghost use Rattle.tree.specs.Scan.{Local, next_of};
 ghost use Rattle.tree.specs.Tree.{Tree, Uses};
@@ -35,7 +35,7 @@ const DEFINITION: u8 = 0x8C;
 
 // ---- rows of members
 //
-// A row of the table is gone along by the index of the item that is due. There are 106 items; the last, 105, is where no row goes on.
+// A row of the table is gone along by the index of the item that is due. There are 106 items; the last, 105, takes nothing.
 
 // The item that is due after a member of the class of the one at j.
 fn behind(it: Item, j: usize) -> usize
@@ -49,34 +49,34 @@ fn behind(it: Item, j: usize) -> usize
 }
 
 // What may follow a member of class c in the row of items at i, where items may have to be passed over first.
-fn skip(i: usize, c: u8) -> usize
+fn skip(i: usize, c: u8) -> Option<usize>
     requires { (i < 106) × (0 < c) }
-    ensures { (row_at result ≡ after (row_at i) c) × (result < 106) }
+    ensures { IsDue result (after (row_at i) c) }
 {
     for j in i..105 {
         let it = table::item_at(j);
         if it.takes(c) {
-            return behind(it, j);
+            return Some(behind(it, j));
         }
         let mode = it.mode();
         if mode == Mode::One {
-            return 105;
+            return None;
         }
         if mode == Mode::Mixed && c == table::TERM {
-            return j;
+            return Some(j);
         }
     }
-    105
+    None
 }
 
 // The same: most often the first item takes the member.
-fn advance(i: usize, c: u8) -> usize
+fn advance(i: usize, c: u8) -> Option<usize>
     requires { (i < 106) × (0 < c) }
-    ensures { (row_at result ≡ after (row_at i) c) × (result < 106) }
+    ensures { IsDue result (after (row_at i) c) }
 {
     let it = table::item_at(i);
     if it.takes(c) {
-        return behind(it, i);
+        return Some(behind(it, i));
     }
     skip(i, c)
 }
@@ -93,7 +93,10 @@ fn row(b: &Input, p: usize, e: usize, s: usize) -> bool
         let Some(n) = b.end_by(q, e) else {
             return false;
         };
-        i = advance(i, table::class_of(b.byte(q)));
+        let Some(due) = advance(i, table::class_of(b.byte(q))) else {
+            return false;
+        };
+        i = due;
         q = n;
     }
     table::item_at(i).may_end()

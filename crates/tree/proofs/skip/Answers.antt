@@ -17,7 +17,7 @@ pub returns-then-eq : goal.returns-then-eq
 returns-then-eq c =
     let m : c.mode-mode.result ≡ One = search rules in
     let n = eqb-false _ _ (sym c.takes.ensures ∙ c.if-takes.false) in
-    (at-stop _ _ (omega arith) c.item_at-it.ensures _ n (one-mode _ _ c.mode-mode.ensures m) ∙ c.loop-j.invariant, search rules)
+    sym c.loop-j.invariant ∙ at-stop _ _ (omega arith) c.item_at-it.ensures _ n (one-mode _ _ c.mode-mode.ensures m)
 
 pub returns-then-c-eq-TERM : goal.returns-then-c-eq-TERM
 returns-then-c-eq-TERM c =
@@ -36,4 +36,4 @@ loop-j-preserved c =
     ]
 
 pub returns : goal.returns
-returns c = (at_last _ _ (omega arith) (omega arith) ∙ c.loop-j.invariant, search rules)
+returns c = sym c.loop-j.invariant ∙ at_last _ _ (omega arith) (omega arith)
