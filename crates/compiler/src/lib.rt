@@ -7,7 +7,7 @@
 
 #![tactic(auto)]
 
-ghost use Rattle.std.specs.Prelude.{◌≡◌, List, [], ◌∷◌, ℕ, ◌+◌, ◌-◌, ◌*◌, ◌≤◌, ◌<◌, ◌^◌, length, get_or, set};
+ghost use Rattle.std.specs.Prelude.{◌≡◌, List, [], ◌∷◌, ℕ, ◌+◌, ◌-◌, ◌*◌, ◌≤◌, ◌<◌, ◌^◌, length, get_or};
 ghost use Rattle.fields.specs.Field.{field};
 ghost use Rattle.fields.specs.Room.{overlay};
 ghost use Rattle.tree.specs.Rose.{Roses, rnil, rcons, end_of, text_of, Row};
@@ -29,8 +29,8 @@ ghost use Rattle.compiler.specs.Post.{Ready, Stands, Placed, NameIs, Did, Laid, 
 
 use cells::{close, note};
 use puts::put::{put_bare, put_one};
-use puts::state::{alone, insert, insert_error, place, reserve};
-use puts::{calls, put, state};
+use puts::state::{LATE, State};
+use puts::{calls, put};
 use reads::bytes::{end_of, members};
 use reads::{bytes, width};
 
@@ -44,15 +44,15 @@ pub fn iterm(
     p: usize,
     rows: &mut [u64],
     k: usize,
-    st: &mut [usize; 3],
+    st: &mut State,
     out: &mut [u8],
     allowed: u64,
 ) -> u64
     requires { Ready tree.now rows.old k p (end_of tree.now p) st.old × Stands tree.now p }
     ensures { Laid tree.now p rows.old rows.new k st.old st.new out.old out.new allowed result }
 {
-    let o = st[1];
-    st[0] = st[0] + 1;
+    let o = st.end;
+    st.terms = st.terms + 1;
     let tag = tree[p];
     match tag {
         0xA0 => bare(st, out, o, 0x50),
@@ -69,7 +69,7 @@ fn term(
     p: usize,
     rows: &mut [u64],
     k: usize,
-    st: &mut [usize; 3],
+    st: &mut State,
     out: &mut [u8],
     o: usize,
     allowed: u64,
@@ -100,11 +100,11 @@ fn term(
 }
 
 // A term without members.
-fn bare(st: &mut [usize; 3], out: &mut [u8], o: usize, tag: u8) -> u64
-    requires { (length st.old ≡ 3) × (o + 3 < 2 ^ 63) × (off st.old + 3 < 2 ^ 63) }
-    ensures { (result ≡ 0) × (st.new ≡ set st.old 1 (next_of o (start_of o (off st.old) 3) 3)) × (out.new ≡ overlay out.old (spot_of o (start_of o (off st.old) 3)) (field tag [])) }
+fn bare(st: &mut State, out: &mut [u8], o: usize, tag: u8) -> u64
+    requires { (o + 3 < 2 ^ 63) × (off st.old + 3 < 2 ^ 63) }
+    ensures { (result ≡ 0) × (st.new ≡ record st.old { end = next_of o (start_of o (off st.old) 3) 3 }) × (out.new ≡ overlay out.old (spot_of o (start_of o (off st.old) 3)) (field tag [])) }
 {
-    put_bare(out, alone(st, o, 3), tag);
+    put_bare(out, st.alone(o, 3), tag);
     0
 }
 
@@ -115,7 +115,7 @@ fn named(
     rows: &[u64],
     class: u64,
     tag: u8,
-    st: &mut [usize; 3],
+    st: &mut State,
     out: &mut [u8],
     o: usize,
 ) -> u64
@@ -127,7 +127,7 @@ fn named(
     if j == 0 {
         put::put_error(
             out,
-            insert_error(st, 9),
+            st.insert_error(9),
             tag,
             rows[cells::HOME] as usize,
             p + 3,
@@ -135,32 +135,32 @@ fn named(
         );
         return bare(st, out, o, 0x50);
     }
-    put_one(out, alone(st, o, 5), 0x59, cells::index(rows, j));
+    put_one(out, st.alone(o, 5), 0x59, cells::index(rows, j));
     0
 }
 
 // "Num: one or more decimal digits alone, at most 2^63-1, give Int; all else Num with its text."
-fn num(tree: &[u8], p: usize, st: &mut [usize; 3], out: &mut [u8], o: usize) -> u64
-    requires { (length st.old ≡ 3) × Stands tree.now p × Placed o st.old × (get_or tree.now p 0 ≡ 0xAA) × (length tree.now ≤ 32768) × (off st.old ≤ 2 ^ 36) }
+fn num(tree: &[u8], p: usize, st: &mut State, out: &mut [u8], o: usize) -> u64
+    requires { Stands tree.now p × Placed o st.old × (get_or tree.now p 0 ≡ 0xAA) × (length tree.now ≤ 32768) × (off st.old ≤ 2 ^ 36) }
     ensures { (s : List ℕ) (k al : ℕ) → Did tree.now p s s k o st.old st.new out.old out.new al result }
 {
     let z = end_of(tree, p);
     let v = width::int_of(&tree[p + 3..z]);
     if v < width::NO_INT {
-        put::put_int(out, alone(st, o, 11), v);
+        put::put_int(out, st.alone(o, 11), v);
         return 0;
     }
-    put::put_text(out, alone(st, o, z - p), 0x54, &tree[p + 3..z]);
+    put::put_text(out, st.alone(o, z - p), 0x54, &tree[p + 3..z]);
     0
 }
 
 // A call that the rules supply, of arity 0, with the next number; its name x stands at `at`.
-fn supplied(tree: &[u8], rows: &[u64], x: &[u8], at: usize, st: &mut [usize; 3], out: &mut [u8])
-    requires { (length st.old ≡ 3) × ((vw : View) × (k : ℕ) × Seen vw tree.now rows.now k) × (length tree.now ≤ 32768) × (length x.now < 65536) × (at ≤ 65536) × (num st.old < 2 ^ 32) × (off st.old < 2 ^ 62) × (ers st.old < 2 ^ 62) }
+fn supplied(tree: &[u8], rows: &[u64], x: &[u8], at: usize, st: &mut State, out: &mut [u8])
+    requires { ((vw : View) × (k : ℕ) × Seen vw tree.now rows.now k) × (length tree.now ≤ 32768) × (length x.now < 65536) × (at ≤ 65536) × (num st.old < 2 ^ 32) × (off st.old < 2 ^ 62) × (ers st.old < 2 ^ 62) }
     ensures { ((vw : View) (k p : ℕ) → Seen vw tree.now rows.now k → let q = called vw.top p x.now at 0 (bare []) (env_of vw tree.now rows.now k) empty in Put (slot q) q.errs st.old st.new out.old out.new) × (num st.new ≡ num st.old + 1) × (off st.new ≤ off st.old + 10) × (ers st.new ≤ ers st.old + 11) }
 {
     let f = finds::call(tree, rows, x, at, 0);
-    let o = insert(st, finds::call_width(f.kind, 0));
+    let o = st.insert(finds::call_width(f.kind, 0));
     records::put_call(tree, rows, f, 0, 0, out, o, 0);
     records::fail(rows, f, 0, st, out);
 }
@@ -173,7 +173,7 @@ fn or_empty(
     z: usize,
     rows: &mut [u64],
     k: usize,
-    st: &mut [usize; 3],
+    st: &mut State,
     out: &mut [u8],
 )
     requires { Ready tree.now rows.old k q z st.old × ((x : OptTerm) × Row tree.now (f_opt_term x rnil) q z) }
@@ -192,17 +192,17 @@ fn arr(
     p: usize,
     rows: &mut [u64],
     k: usize,
-    st: &mut [usize; 3],
+    st: &mut State,
     out: &mut [u8],
     o: usize,
 ) -> u64
     requires { Ready tree.now rows.old k (p + 1) (end_of tree.now p) st.old × Stands tree.now p × Placed o st.old × (get_or tree.now p 0 ≡ 0xA2) }
     ensures { (al : ℕ) → Did tree.now p rows.old rows.new k o st.old st.new out.old out.new al result }
 {
-    reserve(st, o, 5);
-    let a = st[0];
+    st.reserve(o, 5);
+    let a = st.terms;
     or_empty(tree, p + 3, end_of(tree, p), rows, k, st, out);
-    put_one(out, place(st, o, 5), 0x56, a);
+    put_one(out, st.place(o, 5), 0x56, a);
     0
 }
 
@@ -212,17 +212,17 @@ fn neg(
     p: usize,
     rows: &mut [u64],
     k: usize,
-    st: &mut [usize; 3],
+    st: &mut State,
     out: &mut [u8],
     o: usize,
 ) -> u64
     requires { Ready tree.now rows.old k (p + 1) (end_of tree.now p) st.old × Stands tree.now p × Placed o st.old × (get_or tree.now p 0 ≡ 0xA3) }
     ensures { (al : ℕ) → Did tree.now p rows.old rows.new k o st.old st.new out.old out.new al result }
 {
-    reserve(st, o, 5);
-    let a = st[0];
+    st.reserve(o, 5);
+    let a = st.terms;
     iterm(tree, p + 3, rows, k, st, out, 0);
-    put_one(out, place(st, o, 5), 0x5D, a);
+    put_one(out, st.place(o, 5), 0x5D, a);
     0
 }
 
@@ -232,20 +232,20 @@ fn label(
     p: usize,
     rows: &mut [u64],
     k: usize,
-    st: &mut [usize; 3],
+    st: &mut State,
     out: &mut [u8],
     o: usize,
 ) -> u64
     requires { Ready tree.now rows.old k (p + 1) (end_of tree.now p) st.old × Stands tree.now p × Placed o st.old × (get_or tree.now p 0 ≡ 0xA4) }
     ensures { (al : ℕ) → Did tree.now p rows.old rows.new k o st.old st.new out.old out.new al result }
 {
-    reserve(st, o, 5);
-    let a = st[0];
+    st.reserve(o, 5);
+    let a = st.terms;
     let c = rows[cells::IN_VIEW];
     cells::bind(tree, rows, k, cells::LABEL, p + 3, 0);
     iterm(tree, end_of(tree, p + 3), rows, k + 1, st, out, 0);
     close(rows, k, k + 1, c);
-    put_one(out, place(st, o, 5), 0x5C, a);
+    put_one(out, st.place(o, 5), 0x5C, a);
     0
 }
 
@@ -255,19 +255,19 @@ fn trial(
     p: usize,
     rows: &mut [u64],
     k: usize,
-    st: &mut [usize; 3],
+    st: &mut State,
     out: &mut [u8],
     o: usize,
 ) -> u64
     requires { Ready tree.now rows.old k (p + 1) (end_of tree.now p) st.old × Stands tree.now p × Placed o st.old × (get_or tree.now p 0 ≡ 0xAB) }
     ensures { (al : ℕ) → Did tree.now p rows.old rows.new k o st.old st.new out.old out.new al result }
 {
-    reserve(st, o, 7);
-    let a = st[0];
+    st.reserve(o, 7);
+    let a = st.terms;
     iterm(tree, p + 3, rows, k, st, out, 0);
-    let b = st[0];
+    let b = st.terms;
     or_empty(tree, end_of(tree, p + 3), end_of(tree, p), rows, k, st, out);
-    put::put_two(out, place(st, o, 7), 0x68, a, b);
+    put::put_two(out, st.place(o, 7), 0x68, a, b);
     0
 }
 
@@ -289,7 +289,7 @@ fn pairs(
     z: usize,
     rows: &mut [u64],
     k: usize,
-    st: &mut [usize; 3],
+    st: &mut State,
     out: &mut [u8],
     allowed: u64,
 ) -> Run
@@ -300,9 +300,9 @@ fn pairs(
     let mut i = k;
     let mut t = 0;
     while bytes::is_tag(tree, p, z, 0xB8) {
-        let a = st[0];
+        let a = st.terms;
         iterm(tree, p + 3, rows, i, st, out, 0);
-        note(rows, i, cells::KEPT, a, st[0]);
+        note(rows, i, cells::KEPT, a, st.terms);
         t = t | iterm(tree, end_of(tree, p + 3), rows, i + 1, st, out, allowed);
         p = end_of(tree, p);
         i += 1;
@@ -322,7 +322,7 @@ fn other(
     z: usize,
     rows: &mut [u64],
     k: usize,
-    st: &mut [usize; 3],
+    st: &mut State,
     out: &mut [u8],
     allowed: u64,
 ) -> u64
@@ -330,9 +330,9 @@ fn other(
     ensures { Else tree.now q z rows.old rows.new k st.old st.new out.old out.new allowed result }
 {
     if q < z {
-        return term(tree, q, rows, k, st, out, state::LATE, allowed);
+        return term(tree, q, rows, k, st, out, LATE, allowed);
     }
-    bare(st, out, state::LATE, 0x50)
+    bare(st, out, LATE, 0x50)
 }
 
 #[cycle(compiling)]
@@ -341,7 +341,7 @@ fn ite(
     p: usize,
     rows: &mut [u64],
     k: usize,
-    st: &mut [usize; 3],
+    st: &mut State,
     out: &mut [u8],
     o: usize,
     allowed: u64,
@@ -350,11 +350,11 @@ fn ite(
     ensures { Did tree.now p rows.old rows.new k o st.old st.new out.old out.new allowed result }
 {
     let z = end_of(tree, p);
-    reserve(st, o, 9);
+    st.reserve(o, 9);
     let a = pairs(tree, p + 3, z, rows, k, st, out, allowed);
     let t = other(tree, a.q, z, rows, a.k, st, out, allowed);
     let n = records::elses(rows, k, a.k, st, out);
-    records::put_pair(rows, k, n, out, place(st, o, 9));
+    records::put_pair(rows, k, n, out, st.place(o, 9));
     a.tail | t
 }
 
@@ -366,7 +366,7 @@ fn binary(
     p: usize,
     rows: &mut [u64],
     k: usize,
-    st: &mut [usize; 3],
+    st: &mut State,
     out: &mut [u8],
     o: usize,
     allowed: u64,
@@ -412,7 +412,7 @@ fn binop(
     q: usize,
     rows: &mut [u64],
     k: usize,
-    st: &mut [usize; 3],
+    st: &mut State,
     out: &mut [u8],
     o: usize,
     allowed: u64,
@@ -422,12 +422,12 @@ fn binop(
 {
     let x = tree[q + 3];
     let w = width::op_width(x);
-    reserve(st, o, w);
-    let a = st[0];
+    st.reserve(o, w);
+    let a = st.terms;
     let s = iterm(tree, p + 3, rows, k, st, out, left_set(x, allowed));
-    let b = st[0];
+    let b = st.terms;
     let t = iterm(tree, q + 4, rows, k, st, out, right_set(x, allowed));
-    records::put_op(out, place(st, o, w), x, a, b);
+    records::put_op(out, st.place(o, w), x, a, b);
     s | t
 }
 
@@ -439,7 +439,7 @@ fn pipe(
     q: usize,
     rows: &mut [u64],
     k: usize,
-    st: &mut [usize; 3],
+    st: &mut State,
     out: &mut [u8],
     o: usize,
     allowed: u64,
@@ -447,12 +447,12 @@ fn pipe(
     requires { Ready tree.now rows.old k (p + 1) (end_of tree.now p) st.old × Stands tree.now p × Placed o st.old × (get_or tree.now p 0 ≡ 0xAD) × (q ≡ end_of tree.now (p + 3)) × (get_or tree.now q 0 ≡ 0xB7) × (end_of tree.now q ≡ q + 3) }
     ensures { Did tree.now p rows.old rows.new k o st.old st.new out.old out.new allowed result }
 {
-    reserve(st, o, 8);
-    let a = st[0];
+    st.reserve(o, 8);
+    let a = st.terms;
     iterm(tree, p + 3, rows, k, st, out, 0);
-    let b = st[0];
+    let b = st.terms;
     let t = iterm(tree, q + 3, rows, k, st, out, allowed);
-    put::put_mid(out, place(st, o, 8), 0x5E, a, 0, b);
+    put::put_mid(out, st.place(o, 8), 0x5E, a, 0, b);
     t
 }
 
@@ -464,7 +464,7 @@ fn piped(
     q: usize,
     rows: &mut [u64],
     k: usize,
-    st: &mut [usize; 3],
+    st: &mut State,
     out: &mut [u8],
     o: usize,
     allowed: u64,
@@ -473,13 +473,13 @@ fn piped(
     ensures { Did tree.now p rows.old rows.new k o st.old st.new out.old out.new allowed result }
 {
     let w = 7 + width::pattern_width(tree, q + 3);
-    reserve(st, o, w);
-    let a = st[0];
+    st.reserve(o, w);
+    let a = st.terms;
     iterm(tree, p + 3, rows, k, st, out, 0);
-    let b = st[0];
+    let b = st.terms;
     let t = under(tree, q, rows, k, st, out, allowed);
     pattern(tree, q + 3, rows, k, 0, st, out);
-    records::put_piped(tree, q + 3, rows, k, a, b, out, place(st, o, w), w);
+    records::put_piped(tree, q + 3, rows, k, a, b, out, st.place(o, w), w);
     t
 }
 
@@ -490,7 +490,7 @@ fn under(
     q: usize,
     rows: &mut [u64],
     k: usize,
-    st: &mut [usize; 3],
+    st: &mut State,
     out: &mut [u8],
     allowed: u64,
 ) -> u64
@@ -515,7 +515,7 @@ fn pattern(
     rows: &mut [u64],
     k: usize,
     n: usize,
-    st: &mut [usize; 3],
+    st: &mut State,
     out: &mut [u8],
 ) -> usize
     requires { Ready tree.now rows.old k (q + 1) (end_of tree.now q) st.old × (12 * k + 4 * (length tree.now - q) ≤ 3 * length rows.old) × ((x : Pattern) × PatternAt tree.now x q) × (n < 65536) }
@@ -535,14 +535,7 @@ fn pattern(
 
 // "Array keys are Int terms from 0, each before its pattern."
 #[cycle(compiling)]
-fn items(
-    tree: &[u8],
-    q: usize,
-    rows: &mut [u64],
-    k: usize,
-    st: &mut [usize; 3],
-    out: &mut [u8],
-) -> usize
+fn items(tree: &[u8], q: usize, rows: &mut [u64], k: usize, st: &mut State, out: &mut [u8]) -> usize
     requires { Ready tree.now rows.old k (q + 3) (end_of tree.now q) st.old × ((xs : Patterns) × Row tree.now (f_patterns xs rnil) (q + 3) (end_of tree.now q)) × (end_of tree.now q ≤ length tree.now) }
     ensures { Members tree.now q rows.old rows.new k st.old st.new out.old out.new result }
 {
@@ -551,8 +544,8 @@ fn items(
     let mut i = 0;
     let mut j = k;
     while p < z {
-        let n = st[0];
-        put::put_int(out, insert(st, 11), i);
+        let n = st.terms;
+        put::put_int(out, st.insert(11), i);
         j = pattern(tree, p, rows, j, n, st, out);
         p = end_of(tree, p);
         i += 1;
@@ -562,14 +555,7 @@ fn items(
 
 // The entries of an object pattern: each a key and a pattern.
 #[cycle(compiling)]
-fn keyed(
-    tree: &[u8],
-    q: usize,
-    rows: &mut [u64],
-    k: usize,
-    st: &mut [usize; 3],
-    out: &mut [u8],
-) -> usize
+fn keyed(tree: &[u8], q: usize, rows: &mut [u64], k: usize, st: &mut State, out: &mut [u8]) -> usize
     requires { Ready tree.now rows.old k (q + 3) (end_of tree.now q) st.old × ((xs : PatEntries) × Row tree.now (f_pat_entries xs rnil) (q + 3) (end_of tree.now q)) × (end_of tree.now q ≤ length tree.now) }
     ensures { Keyed tree.now q rows.old rows.new k st.old st.new out.old out.new result }
 {
@@ -577,7 +563,7 @@ fn keyed(
     let mut p = q + 3;
     let mut j = k;
     while p < z {
-        let n = st[0];
+        let n = st.terms;
         iterm(tree, p + 3, rows, j, st, out, 0);
         j = pattern(tree, end_of(tree, p + 3), rows, j, n, st, out);
         p = end_of(tree, p);
@@ -594,7 +580,7 @@ fn fold(
     p: usize,
     rows: &mut [u64],
     k: usize,
-    st: &mut [usize; 3],
+    st: &mut State,
     out: &mut [u8],
     o: usize,
     allowed: u64,
@@ -606,7 +592,7 @@ fn fold(
     if f.a < 2 {
         put::put_filter_error(
             out,
-            insert_error(st, 11),
+            st.insert_error(11),
             rows[cells::HOME] as usize,
             p + 6,
             f.x - p - 6,
@@ -614,15 +600,15 @@ fn fold(
         );
         return bare(st, out, o, 0x50);
     }
-    reserve(st, o, f.w);
-    let a = st[0];
+    st.reserve(o, f.w);
+    let a = st.terms;
     iterm(tree, f.x, rows, k, st, out, 0);
     let i = pattern(tree, f.q, rows, k, 0, st, out);
-    let b = st[0];
+    let b = st.terms;
     iterm(tree, f.i, rows, i, st, out, 0);
-    let c = st[0];
+    let c = st.terms;
     let u = update(tree, p, rows, k, i, st, out, allowed, f);
-    records::put_fold(tree, rows, k, out, place(st, o, f.w), f, a, b, c, u.n);
+    records::put_fold(tree, rows, k, out, st.place(o, f.w), f, a, b, c, u.n);
     u.tail
 }
 
@@ -640,7 +626,7 @@ fn update(
     rows: &mut [u64],
     k: usize,
     i: usize,
-    st: &mut [usize; 3],
+    st: &mut State,
     out: &mut [u8],
     allowed: u64,
     f: width::Fold,
@@ -651,7 +637,7 @@ fn update(
     let c = rows[cells::IN_VIEW];
     rows::bind_notes(tree, rows, k, i);
     iterm(tree, f.u, rows, i, st, out, 0);
-    let n = st[0];
+    let n = st.terms;
     let t = project(tree, p, rows, i, st, out, allowed, f);
     close(rows, k, i, c);
     Updated { n, tail: t }
@@ -664,7 +650,7 @@ fn project(
     p: usize,
     rows: &mut [u64],
     k: usize,
-    st: &mut [usize; 3],
+    st: &mut State,
     out: &mut [u8],
     allowed: u64,
     f: width::Fold,
@@ -678,7 +664,7 @@ fn project(
     if f.kind == 3 {
         put::put_filter_error(
             out,
-            insert_error(st, 11),
+            st.insert_error(11),
             rows[cells::HOME] as usize,
             p + 6,
             f.x - p - 6,
@@ -697,7 +683,7 @@ fn path(
     p: usize,
     rows: &mut [u64],
     k: usize,
-    st: &mut [usize; 3],
+    st: &mut State,
     out: &mut [u8],
     o: usize,
 ) -> u64
@@ -707,11 +693,11 @@ fn path(
     let z = end_of(tree, p);
     let q = end_of(tree, p + 3);
     let w = 7 + width::parts_width(tree, q, z);
-    reserve(st, o, w);
-    let a = st[0];
+    st.reserve(o, w);
+    let a = st.terms;
     iterm(tree, p + 3, rows, k, st, out, 0);
     let i = parts(tree, q, z, rows, k, st, out);
-    records::put_path(tree, q, z, rows, k, i, out, place(st, o, w), w, a);
+    records::put_path(tree, q, z, rows, k, i, out, st.place(o, w), w, a);
     0
 }
 
@@ -723,7 +709,7 @@ fn parts(
     z: usize,
     rows: &mut [u64],
     k: usize,
-    st: &mut [usize; 3],
+    st: &mut State,
     out: &mut [u8],
 ) -> usize
     requires { Ready tree.now rows.old k q z st.old × ((xs : Parts) × Row tree.now (f_parts xs rnil) q z) }
@@ -741,11 +727,11 @@ fn parts(
 
 // "a range's start before its end"
 #[cycle(compiling)]
-fn part(tree: &[u8], q: usize, rows: &mut [u64], k: usize, st: &mut [usize; 3], out: &mut [u8])
+fn part(tree: &[u8], q: usize, rows: &mut [u64], k: usize, st: &mut State, out: &mut [u8])
     requires { Ready tree.now rows.old k q (end_of tree.now q) st.old × ((x : Part) × Row tree.now (rcons (f_part x) rnil) q (end_of tree.now q)) }
     ensures { PartIs tree.now q rows.old rows.new k st.old st.new out.old out.new }
 {
-    let a = st[0];
+    let a = st.terms;
     if tree[q] == 0xBE {
         iterm(tree, q + 3, rows, k, st, out, 0);
         note(rows, k, cells::KEPT, a, 0);
@@ -753,7 +739,7 @@ fn part(tree: &[u8], q: usize, rows: &mut [u64], k: usize, st: &mut [usize; 3], 
     }
     let z = end_of(tree, q);
     bound(tree, q + 3, z, 0xC1, rows, k, st, out);
-    note(rows, k, cells::KEPT, a, st[0]);
+    note(rows, k, cells::KEPT, a, st.terms);
     bound(
         tree,
         bytes::past(tree, q + 3, z, 0xC1),
@@ -775,7 +761,7 @@ fn bound(
     tag: u8,
     rows: &mut [u64],
     k: usize,
-    st: &mut [usize; 3],
+    st: &mut State,
     out: &mut [u8],
 )
     requires { Ready tree.now rows.old k q z st.old × ((x : Bound) × (rs : Roses) × NoHead tag rs × Row tree.now (f_bound tag x rs) q z) }
@@ -795,7 +781,7 @@ fn quoted(
     p: usize,
     rows: &mut [u64],
     k: usize,
-    st: &mut [usize; 3],
+    st: &mut State,
     out: &mut [u8],
     o: usize,
 ) -> u64
@@ -808,8 +794,8 @@ fn quoted(
     }
     let q = bytes::past(tree, p + 3, z, 0xBA);
     let w = width::strings_width(tree, q, z);
-    reserve(st, o, w);
-    let f = st[0];
+    st.reserve(o, w);
+    let f = st.terms;
     format(tree, p + 3, q, rows, st, out);
     let i = strings(tree, q, z, rows, k, st, out);
     records::sum_or(tree, rows, k, i, f, 0x55, st, out, o, w);
@@ -817,26 +803,26 @@ fn quoted(
 }
 
 // A string that is one text, whose field is at q, as most strings are.
-fn plain(tree: &[u8], q: usize, z: usize, st: &mut [usize; 3], out: &mut [u8], o: usize) -> u64
-    requires { (length st.old ≡ 3) × (end_of tree.now q ≡ z) × (z ≤ length tree.now) × (length tree.now ≤ 32768) × (num st.old ≤ 65536) × (off st.old ≤ 2 ^ 40) × Placed o st.old }
+fn plain(tree: &[u8], q: usize, z: usize, st: &mut State, out: &mut [u8], o: usize) -> u64
+    requires { (end_of tree.now q ≡ z) × (z ≤ length tree.now) × (length tree.now ≤ 32768) × (num st.old ≤ 65536) × (off st.old ≤ 2 ^ 40) × Placed o st.old }
     ensures { ((at : ℕ) → Own (plain_out at (text_of tree.now q)) o st.old st.new out.old out.new) × (result ≡ 0) }
 {
-    reserve(st, o, z - q);
-    put_bare(out, insert(st, 3), 0x52);
-    put::put_text(out, place(st, o, z - q), 0x55, &tree[q + 3..z]);
+    st.reserve(o, z - q);
+    put_bare(out, st.insert(3), 0x52);
+    put::put_text(out, st.place(o, z - q), 0x55, &tree[q + 3..z]);
     0
 }
 
 // "A format, or ToString, is inserted first and shared.": the format's field is at p, if it stands before q.
-fn format(tree: &[u8], p: usize, q: usize, rows: &[u64], st: &mut [usize; 3], out: &mut [u8])
-    requires { (length st.old ≡ 3) × ((vw : View) × (k : ℕ) × Seen vw tree.now rows.now k) × ((f : Format) × (xs : StrParts) × (z : ℕ) × Row tree.now (f_format f (f_str_parts xs rnil)) p z × (q ≡ past tree.now p z 0xBA) × (z ≤ length tree.now)) × (length tree.now ≤ 32768) × (num st.old ≤ 65536) × (off st.old ≤ 2 ^ 40) × (ers st.old ≤ 2 ^ 40) }
+fn format(tree: &[u8], p: usize, q: usize, rows: &[u64], st: &mut State, out: &mut [u8])
+    requires { ((vw : View) × (k : ℕ) × Seen vw tree.now rows.now k) × ((f : Format) × (xs : StrParts) × (z : ℕ) × Row tree.now (f_format f (f_str_parts xs rnil)) p z × (q ≡ past tree.now p z 0xBA) × (z ≤ length tree.now)) × (length tree.now ≤ 32768) × (num st.old ≤ 65536) × (off st.old ≤ 2 ^ 40) × (ers st.old ≤ 2 ^ 40) }
     ensures { FormatIs tree.now p q rows.now st.old st.new out.old out.new }
 {
     if p < q {
         supplied(tree, rows, &tree[p + 3..q], p + 3, st, out);
         return;
     }
-    put_bare(out, insert(st, 3), 0x52);
+    put_bare(out, st.insert(3), 0x52);
 }
 
 // The parts of a string from q up to z; a note for each has its place and, of a term, its number. The row after them.
@@ -847,7 +833,7 @@ fn strings(
     z: usize,
     rows: &mut [u64],
     k: usize,
-    st: &mut [usize; 3],
+    st: &mut State,
     out: &mut [u8],
 ) -> usize
     requires { Ready tree.now rows.old k q z st.old × ((xs : StrParts) × Row tree.now (f_str_parts xs rnil) q z) }
@@ -856,7 +842,7 @@ fn strings(
     let mut p = q;
     let mut i = k;
     while p < z {
-        let n = st[0];
+        let n = st.terms;
         string(tree, p, rows, i, st, out);
         note(rows, i, cells::PIECE, n, p);
         p = end_of(tree, p);
@@ -866,7 +852,7 @@ fn strings(
 }
 
 #[cycle(compiling)]
-fn string(tree: &[u8], q: usize, rows: &mut [u64], k: usize, st: &mut [usize; 3], out: &mut [u8])
+fn string(tree: &[u8], q: usize, rows: &mut [u64], k: usize, st: &mut State, out: &mut [u8])
     requires { Ready tree.now rows.old k q (end_of tree.now q) st.old × ((x : StrPart) × Row tree.now (rcons (f_str_part x) rnil) q (end_of tree.now q)) }
     ensures { StringIs tree.now q rows.old rows.new k st.old st.new out.old out.new }
 {
@@ -888,7 +874,7 @@ fn obj(
     p: usize,
     rows: &mut [u64],
     k: usize,
-    st: &mut [usize; 3],
+    st: &mut State,
     out: &mut [u8],
     o: usize,
 ) -> u64
@@ -897,7 +883,7 @@ fn obj(
 {
     let z = end_of(tree, p);
     let w = width::entries_width(tree, p + 3, z);
-    reserve(st, o, w);
+    st.reserve(o, w);
     let i = entries(tree, p + 3, z, rows, k, st, out);
     records::sum_or(tree, rows, k, i, 0, 0x57, st, out, o, w);
     0
@@ -911,7 +897,7 @@ fn entries(
     z: usize,
     rows: &mut [u64],
     k: usize,
-    st: &mut [usize; 3],
+    st: &mut State,
     out: &mut [u8],
 ) -> usize
     requires { Ready tree.now rows.old k q z st.old × ((es : Entries) × Row tree.now (f_entries es rnil) q z) }
@@ -928,15 +914,15 @@ fn entries(
 }
 
 #[cycle(compiling)]
-fn obj_entry(tree: &[u8], q: usize, rows: &mut [u64], k: usize, st: &mut [usize; 3], out: &mut [u8])
+fn obj_entry(tree: &[u8], q: usize, rows: &mut [u64], k: usize, st: &mut State, out: &mut [u8])
     requires { Ready tree.now rows.old k q (end_of tree.now q) st.old × ((t : Term) × (v : OptTerm) × EntryAt tree.now q t v) }
     ensures { EntryIs tree.now q rows.old rows.new k st.old st.new out.old out.new }
 {
     let v = end_of(tree, q + 3);
     if v < end_of(tree, q) {
-        let a = st[0];
+        let a = st.terms;
         iterm(tree, q + 3, rows, k, st, out, 0);
-        note(rows, k, cells::KEPT, a, st[0]);
+        note(rows, k, cells::KEPT, a, st.terms);
         iterm(tree, v, rows, k + 1, st, out, 0);
         return;
     }
@@ -949,28 +935,28 @@ fn obj_entry(tree: &[u8], q: usize, rows: &mut [u64], k: usize, st: &mut [usize;
 
 // "Entry `$x` alone has key `x`": the name less its first byte, then the variable.
 #[cycle(compiling)]
-fn own_var(tree: &[u8], p: usize, rows: &mut [u64], k: usize, st: &mut [usize; 3], out: &mut [u8])
+fn own_var(tree: &[u8], p: usize, rows: &mut [u64], k: usize, st: &mut State, out: &mut [u8])
     requires { ((q : ℕ) × (q + 3 ≤ p) × Ready tree.now rows.old k q (end_of tree.now p) st.old) × Stands tree.now p × (get_or tree.now p 0 ≡ 0xA7) }
     ensures { LoneIs tree.now p rows.old rows.new k st.old st.new out.old out.new }
 {
     let z = end_of(tree, p);
-    let a = st[0];
-    put::put_text(out, insert(st, z - p - 1), 0x55, &tree[p + 4..z]);
+    let a = st.terms;
+    put::put_text(out, st.insert(z - p - 1), 0x55, &tree[p + 4..z]);
     iterm(tree, p, rows, k, st, out, 0);
     note(rows, k, cells::KEPT, a, a + 1);
 }
 
 // "other lone keys read themselves from Id: key, Id, then a Path, not optional"
 #[cycle(compiling)]
-fn own_key(tree: &[u8], p: usize, rows: &mut [u64], k: usize, st: &mut [usize; 3], out: &mut [u8])
+fn own_key(tree: &[u8], p: usize, rows: &mut [u64], k: usize, st: &mut State, out: &mut [u8])
     requires { Ready tree.now rows.old k p (end_of tree.now p) st.old × Stands tree.now p × (get_or tree.now p 0 ≡ 0xA7 → ⊥) }
     ensures { LoneIs tree.now p rows.old rows.new k st.old st.new out.old out.new }
 {
-    let a = st[0];
+    let a = st.terms;
     iterm(tree, p, rows, k, st, out, 0);
-    let b = st[0];
-    put_bare(out, insert(st, 3), 0x50);
-    records::put_own(out, insert(st, 11), b, a);
+    let b = st.terms;
+    put_bare(out, st.insert(3), 0x50);
+    records::put_own(out, st.insert(11), b, a);
     note(rows, k, cells::KEPT, a, b + 1);
 }
 
@@ -991,7 +977,7 @@ fn call(
     p: usize,
     rows: &mut [u64],
     k: usize,
-    st: &mut [usize; 3],
+    st: &mut State,
     out: &mut [u8],
     o: usize,
     allowed: u64,
@@ -1003,30 +989,22 @@ fn call(
     let a = members(tree, q, end_of(tree, p));
     let f = meaning(tree, rows, k, &tree[p + 6..q], p + 6, a);
     let w = finds::call_width(f.kind, a);
-    reserve(st, o, w);
+    st.reserve(o, w);
     args(tree, q, a, rows, k, st, out);
     records::fail(rows, f, a, st, out);
-    records::put_call(tree, rows, f, k, a, out, place(st, o, w), allowed)
+    records::put_call(tree, rows, f, k, a, out, st.place(o, w), allowed)
 }
 
 // The a arguments from q on; a note for each has its number.
 #[cycle(compiling)]
-fn args(
-    tree: &[u8],
-    q: usize,
-    a: usize,
-    rows: &mut [u64],
-    k: usize,
-    st: &mut [usize; 3],
-    out: &mut [u8],
-)
+fn args(tree: &[u8], q: usize, a: usize, rows: &mut [u64], k: usize, st: &mut State, out: &mut [u8])
     requires { (z : ℕ) × Ready tree.now rows.old k q z st.old × ((ts : Terms) × Row tree.now (f_terms ts rnil) q z × (arity ts ≡ a)) }
     ensures { Passed tree.now q a rows.old rows.new k st.old st.new out.old out.new }
 {
     let mut p = q;
     let mut i = 0;
     while i < a {
-        let n = st[0];
+        let n = st.terms;
         iterm(tree, p, rows, k + i, st, out, 0);
         note(rows, k + i, cells::KEPT, n, 0);
         p = end_of(tree, p);
@@ -1037,12 +1015,12 @@ fn args(
 // ---- definitions
 
 // Where the own record stands before the definitions, its length is that of the term's that they are for, which may be a call of one of them.
-fn reserve_def(tree: &[u8], p: usize, rows: &[u64], st: &mut [usize; 3], o: usize)
+fn reserve_def(tree: &[u8], p: usize, rows: &[u64], st: &mut State, o: usize)
     requires { ((k : ℕ) × Ready tree.now rows.now k (p + 1) (end_of tree.now p) st.old) × Stands tree.now p × Placed o st.old × (get_or tree.now p 0 ≡ 0xA9) }
     ensures { Reserved tree.now p rows.now o st.old st.new }
 {
-    if o == st[1] {
-        st[1] = o + finds::under::def_width(tree, p, rows);
+    if o == st.end {
+        st.end = o + finds::under::def_width(tree, p, rows);
         return;
     }
 }
@@ -1054,7 +1032,7 @@ fn def(
     p: usize,
     rows: &mut [u64],
     k: usize,
-    st: &mut [usize; 3],
+    st: &mut State,
     out: &mut [u8],
     o: usize,
     allowed: u64,
@@ -1077,7 +1055,7 @@ fn defs(
     q: usize,
     rows: &mut [u64],
     k: usize,
-    st: &mut [usize; 3],
+    st: &mut State,
     out: &mut [u8],
     allowed: u64,
 ) -> Run
@@ -1106,7 +1084,7 @@ pub fn open_def(
     q: usize,
     rows: &mut [u64],
     k: usize,
-    st: &mut [usize; 3],
+    st: &mut State,
     out: &mut [u8],
     allowed: u64,
 )
@@ -1114,7 +1092,7 @@ pub fn open_def(
     ensures { Defined tree.now q rows.old rows.new k st.old st.new out.old out.new allowed }
 {
     let u = bytes::params(tree, end_of(tree, q + 3));
-    let n = st[0];
+    let n = st.terms;
     let c = rows[cells::IN_VIEW];
     let l = rows[cells::ENCLOSE];
     rows::enter(tree, rows, k, q + 3, u.a, n);

@@ -10,7 +10,8 @@ use borrow.Author.Tests.{eqb-true, eqb-false, lt-ltb, le-ltb, eq-eqb, ne_eqb}
 use Rattle.fields.specs.Number.{number}
 use Rattle.fields.specs.Field.{field}
 use Rattle.fields.specs.Room.{overlay, overlay-one, overlay-none}
-use Rattle.puts.specs.State.{ers}
+use Rattle.puts.specs.declared.state.State.{State}
+use Rattle.puts.specs.State.{ers, with_ers}
 use Rattle.puts.specs.Runs.{run-then, byte-then, then-byte}
 use Rattle.rules.specs.Table.{n_path, index}
 use Rattle.rules.specs.Listing.{node_bytes, fold_bytes, opt_number, step_bytes, steps_bytes}
@@ -92,24 +93,18 @@ own-path a b o d d₁ d₂ d₃ d₄ d₅ e₁ e₂ e₃ e₄ e₅ =
 
 -- ---- errors
 
-pub no-filter : (s : List ℕ) (f : Hit.Found) (a e : ℕ) (st st₁ d d₁ : List ℕ) → f.kind ≡ 0 → e ≡ ers st → st₁ ≡ set st 2 (ers st + 11)
+pub no-filter : (s : List ℕ) (f : Hit.Found) (a e : ℕ) (st st₁ : State) (d d₁ : List ℕ) → f.kind ≡ 0 → e ≡ ers st → st₁ ≡ with_ers st (ers st + 11)
     → d₁ ≡ overlay d e (field 0x2B (number 2 (get_or s 3 0) ++ (number 2 f.at ++ number 2 f.len) ++ number 2 a)) → Failed s f a st st₁ d d₁
 unfolding lost_errs field number
 no-filter s f a e st st₁ d d₁ k g h i = record { state = simp k h; room = simp k (rw g at i) }
 
-pub no-module : (s : List ℕ) (f : Hit.Found) (a e : ℕ) (st st₁ d d₁ : List ℕ) → f.kind ≡ 1 → e ≡ ers st → st₁ ≡ set st 2 (ers st + 9)
+pub no-module : (s : List ℕ) (f : Hit.Found) (a e : ℕ) (st st₁ : State) (d d₁ : List ℕ) → f.kind ≡ 1 → e ≡ ers st → st₁ ≡ with_ers st (ers st + 9)
     → d₁ ≡ overlay d e (field 0x28 (number 2 (get_or s 3 0) ++ (number 2 f.at ++ number 2 f.len))) → Failed s f a st st₁ d d₁
 unfolding lost_errs field number
 no-module s f a e st st₁ d d₁ k g h i = record { state = simp k h; room = simp k (rw g at i) }
 
-third-stored : (st : List ℕ) → st ≡ set st 2 (ers st)
-third-stored [] = refl
-third-stored (a ∷ []) = refl
-third-stored (a ∷ b ∷ []) = refl
-third-stored (a ∷ b ∷ c ∷ l) = refl
-
-pub no-error : (s : List ℕ) (f : Hit.Found) (a : ℕ) (st d : List ℕ) → (f.kind ≡ 0 → ⊥) → (f.kind ≡ 1 → ⊥) → Failed s f a st st d d
+pub no-error : (s : List ℕ) (f : Hit.Found) (a : ℕ) (st : State) (d : List ℕ) → (f.kind ≡ 0 → ⊥) → (f.kind ≡ 1 → ⊥) → Failed s f a st st d d
 unfolding lost_errs
 no-error s f a st d h k =
     let z : ers st + 0 ≡ ers st = omega arith in
-    record { state = simp (ne_eqb f.kind 0 h, ne_eqb f.kind 1 k) (rw z (third-stored st)); room = simp (ne_eqb f.kind 0 h, ne_eqb f.kind 1 k) (sym (overlay-none d (ers st))) }
+    record { state = simp (ne_eqb f.kind 0 h, ne_eqb f.kind 1 k) (rw z); room = simp (ne_eqb f.kind 0 h, ne_eqb f.kind 1 k) (sym (overlay-none d (ers st))) }

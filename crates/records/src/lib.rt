@@ -28,11 +28,12 @@ ghost use Rattle.records.specs.Sums.{SummandIs, Summands, SumReady, OwnReady, Su
 ghost use Rattle.records.specs.Calls.{args_at, def_bytes, ArgsReady, jump_of, JumpReady, CallReady, CallPut, Failed};
 
 use cells::{last, number};
+use puts::calls;
 use puts::put::{
     put_bare, put_char, put_error, put_filter_error, put_head, put_mid, put_number, put_one,
     put_text, put_three, put_two, put1,
 };
-use puts::{calls, state};
+use puts::state::State;
 use reads::bytes::{end_of, members};
 use reads::{bytes, width};
 
@@ -56,17 +57,17 @@ pub fn put_pair(rows: &[u64], j: usize, n: usize, out: &mut [u8], o: usize)
 }
 
 // "then else numbers from the last pair back": the pairs' notes are rows k up to i. The number of the first pair's else.
-pub fn elses(rows: &[u64], k: usize, i: usize, st: &mut [usize; 3], out: &mut [u8]) -> usize
-    requires { (length st.old ≡ 3) × (k ≤ i) × (4 * i ≤ length rows.now) × (num st.old + (i - k) + 1 < 2 ^ 64) × (off st.old + 9 * (i - k) < 2 ^ 64) }
+pub fn elses(rows: &[u64], k: usize, i: usize, st: &mut State, out: &mut [u8]) -> usize
+    requires { (k ≤ i) × (4 * i ≤ length rows.now) × (num st.old + (i - k) + 1 < 2 ^ 64) × (off st.old + 9 * (i - k) < 2 ^ 64) }
     ensures { Elsed (pairs_at rows.now k (i - k)) st.old st.new out.old out.new result }
 {
     let mut j = i;
     while k + 1 < j {
         j -= 1;
-        let n = st[0];
-        put_pair(rows, j, n, out, state::insert(st, 9));
+        let n = st.terms;
+        put_pair(rows, j, n, out, st.insert(9));
     }
-    state::take_number(st)
+    st.take_number()
 }
 
 // ---- operators
@@ -351,24 +352,16 @@ fn put_sum(
 }
 
 // From the last row but one back: the summand, and the sum of those after it.
-fn sums(
-    tree: &[u8],
-    rows: &[u64],
-    k: usize,
-    i: usize,
-    f: usize,
-    st: &mut [usize; 3],
-    out: &mut [u8],
-)
-    requires { (length st.old ≡ 3) × (k < i) × SumReady tree.now rows.now f k i (off st.old) × (num st.old + 2 * (i - k) < 2 ^ 64) }
+fn sums(tree: &[u8], rows: &[u64], k: usize, i: usize, f: usize, st: &mut State, out: &mut [u8])
+    requires { (k < i) × SumReady tree.now rows.now f k i (off st.old) × (num st.old + 2 * (i - k) < 2 ^ 64) }
     ensures { (ts : List Node) (p : ℕ) (t : Node) → Summands tree.now rows.now f k ts → i ≡ k + length ts → SumsPut p t ts st.old st.new out.old out.new }
 {
     let mut j = i - 1;
     while k < j {
-        let n = st[0];
-        let x = put_summand(tree, rows, j - 1, f, out, st[1]);
-        st[1] = put_sum(tree, rows, j, i, f, n, out, x);
-        st[0] = n + 2;
+        let n = st.terms;
+        let x = put_summand(tree, rows, j - 1, f, out, st.end);
+        st.end = put_sum(tree, rows, j, i, f, n, out, x);
+        st.terms = n + 2;
         j -= 1;
     }
 }
@@ -382,21 +375,21 @@ pub fn sum_or(
     i: usize,
     f: usize,
     tag: u8,
-    st: &mut [usize; 3],
+    st: &mut State,
     out: &mut [u8],
     o: usize,
     w: usize,
 )
-    requires { (length st.old ≡ 3) × (k ≤ i) × SumReady tree.now rows.now f k i (o + off st.old + w + 3) × (num st.old + 2 * (i - k) < 2 ^ 64) }
+    requires { (k ≤ i) × SumReady tree.now rows.now f k i (o + off st.old + w + 3) × (num st.old + 2 * (i - k) < 2 ^ 64) }
     ensures { (ts : List Node) (p : ℕ) (t : Node) → Summands tree.now rows.now f k ts → i ≡ k + length ts → node_bytes 2 t ≡ field tag [] → SumPut p t ts o w st.old st.new out.old out.new }
 {
     if k < i {
         sums(tree, rows, k, i, f, st, out);
-        let n = st[0];
-        put_sum(tree, rows, k, i, f, n, out, state::place(st, o, w));
+        let n = st.terms;
+        put_sum(tree, rows, k, i, f, n, out, st.place(o, w));
         return;
     }
-    put_bare(out, state::place(st, o, w), tag);
+    put_bare(out, st.place(o, w), tag);
 }
 
 // ---- calls
@@ -511,7 +504,7 @@ pub fn put_call(
 }
 
 // The error of a call that means nothing.
-pub fn fail(rows: &[u64], f: finds::Found, a: usize, st: &mut [usize; 3], out: &mut [u8])
+pub fn fail(rows: &[u64], f: finds::Found, a: usize, st: &mut State, out: &mut [u8])
     requires { (4 ≤ length rows.now) × (ers st.old + 11 < 2 ^ 64) }
     ensures { Failed rows.now f a st.old st.new out.old out.new }
 {
@@ -519,7 +512,7 @@ pub fn fail(rows: &[u64], f: finds::Found, a: usize, st: &mut [usize; 3], out: &
     match kind {
         0 => put_filter_error(
             out,
-            state::insert_error(st, 11),
+            st.insert_error(11),
             rows[cells::HOME] as usize,
             f.at,
             f.len,
@@ -527,7 +520,7 @@ pub fn fail(rows: &[u64], f: finds::Found, a: usize, st: &mut [usize; 3], out: &
         ),
         1 => put_error(
             out,
-            state::insert_error(st, 9),
+            st.insert_error(9),
             0x28,
             rows[cells::HOME] as usize,
             f.at,

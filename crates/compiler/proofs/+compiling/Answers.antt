@@ -712,7 +712,7 @@ iterm-num-requires t c =
     let g = c.requires.1 in
     let f = asks.stands-fits _ _ g in
     let w = terms.number-ready _ _ _ _ _ _ _ y refl refl in
-    (w.0.three, g, w.1, c.in-170.is, y.small, omega (arith, w.0.offs))
+    (g, w.1, c.in-170.is, y.small, omega (arith, w.0.offs))
 
 pub iterm-term-requires : goal.iterm-term-requires
 iterm-term-requires t c =
@@ -728,7 +728,7 @@ iterm-returns-in-160 t c =
     let g = c.requires.1 in
     let f = asks.stands-fits _ _ g in
     let w = terms.number-ready _ _ _ _ _ _ _ y refl refl in
-    terms.laid_of _ _ _ _ _ _ _ _ _ _ _ _ _ y g refl refl (leaves.id-bare _ _ _ _ _ _ _ _ _ _ _ c.in-160.is w.0.three (omega (arith, w.0.offs)) c.bare.ensures)
+    terms.laid_of _ _ _ _ _ _ _ _ _ _ _ _ _ y g refl refl (leaves.id-bare _ _ _ _ _ _ _ _ _ _ _ c.in-160.is (omega (arith, w.0.offs)) c.bare.ensures)
 
 pub iterm-returns-in-167 : goal.iterm-returns-in-167
 iterm-returns-in-167 t c =
@@ -1032,11 +1032,6 @@ obj_entry-end_of-requires t c =
     let g = c.requires.1 in
     g.2.fits
 
-pub obj_entry-bounds-st-0 : goal.obj_entry-bounds-st-0
-obj_entry-bounds-st-0 t c =
-    let y = c.requires.0 in
-    omega (arith, y.three)
-
 pub obj_entry-overflow_add-q-then-v-end_of : goal.obj_entry-overflow_add-q-then-v-end_of
 obj_entry-overflow_add-q-then-v-end_of t c =
     let y = c.requires.0 in
@@ -1050,11 +1045,6 @@ obj_entry-iterm-requires t c =
     let g = c.requires.1 in
     let w = forms_objects.entry_key b _ _ _ _ y g in
     (omega (arith, c.decreases, g.2.fits), (w.0, w.1))
-
-pub obj_entry-bounds-st-0-then-v-end_of : goal.obj_entry-bounds-st-0-then-v-end_of
-obj_entry-bounds-st-0-then-v-end_of t c =
-    let y = c.requires.0 in
-    omega (arith, y.three, c.iterm.ensures.paid.three)
 
 pub obj_entry-note-requires : goal.obj_entry-note-requires
 obj_entry-note-requires t c =
@@ -1220,13 +1210,13 @@ pub or_empty-supplied-requires : goal.or_empty-supplied-requires
 or_empty-supplied-requires t c =
     let y = c.requires.0 in
     let g = c.requires.1 in
-    (y.three, (y.view, c.args.k, y.seen), y.small, omega arith, omega arith, omega (arith, y.nums), omega (arith, y.offs), omega (arith, y.errs))
+    ((y.view, c.args.k, y.seen), y.small, omega arith, omega arith, omega (arith, y.nums), omega (arith, y.offs), omega (arith, y.errs))
 
 pub or_empty-returns : goal.or_empty-returns
 or_empty-returns t c =
     let y = c.requires.0 in
     let g = c.requires.1 in
-    simple.none-empty _ _ _ _ _ _ _ _ _ c.if-q-z.false y.three g c.supplied.ensures.0 (c.supplied.ensures.0 y.view c.args.k 0 y.seen).same c.supplied.ensures.1 c.supplied.ensures.2 c.supplied.ensures.3
+    simple.none-empty _ _ _ _ _ _ _ _ _ c.if-q-z.false g c.supplied.ensures.0 c.supplied.ensures.1 c.supplied.ensures.2 c.supplied.ensures.3
 
 pub other-term-requires : goal.other-term-requires
 other-term-requires t c =
@@ -1245,31 +1235,19 @@ pub other-bare-requires : goal.other-bare-requires
 other-bare-requires t c =
     let y = c.requires.0 in
     let g = c.requires.1 in
-    (y.three, omega arith, omega (arith, y.offs))
+    (omega arith, omega (arith, y.offs))
 
 pub other-returns : goal.other-returns
 other-returns t c =
     let y = c.requires.0 in
     let g = c.requires.1 in
-    asks.else-bare _ _ _ _ _ _ _ _ _ _ _ c.if-q-z.false y.three (omega (arith, y.offs)) g c.bare.ensures
-
-pub own_key-bounds-st-0 : goal.own_key-bounds-st-0
-own_key-bounds-st-0 t c =
-    let y = c.requires.0 in
-    omega (arith, y.three)
+    asks.else-bare _ _ _ _ _ _ _ _ _ _ _ c.if-q-z.false (omega (arith, y.offs)) g c.bare.ensures
 
 pub own_key-iterm-requires : goal.own_key-iterm-requires
 own_key-iterm-requires t c =
     let y = c.requires.0 in
     let g = c.requires.1 in
     (omega (arith, c.decreases), (y, g))
-
-pub own_key-bounds-st-0-2 : goal.own_key-bounds-st-0-2
-own_key-bounds-st-0-2 t c =
-    let b = c.args.tree.now in
-    let y = c.requires.0 in
-    let a = forms_objects.key-rooms b _ _ _ _ _ _ _ _ _ y c.iterm.ensures in
-    omega (arith, a.2)
 
 pub own_key-insert-requires : goal.own_key-insert-requires
 own_key-insert-requires t c =
@@ -1325,11 +1303,6 @@ own_var-end_of-z-requires t c =
     let e = c.requires.2 in
     let h = forms_objects.var-long b c.args.p e g in
     h.1
-
-pub own_var-bounds-st-0 : goal.own_var-bounds-st-0
-own_var-bounds-st-0 t c =
-    let y = c.requires.0.2 in
-    omega (arith, y.three)
 
 pub own_var-overflow_sub-z : goal.own_var-overflow_sub-z
 own_var-overflow_sub-z t c =
@@ -1552,11 +1525,6 @@ pairs-returns t c =
     let m = c.loop-a.invariant in
     pairing.pairs-done _ _ _ _ _ _ _ _ _ _ _ _ _ _ _ (tag-no c.args.tree.now c.loop-a.p c.args.z 0xB8 (sym c.is_tag.ensures ∙ c.loop-a-test.false)) m refl refl refl
 
-pub part-bounds-st-0 : goal.part-bounds-st-0
-part-bounds-st-0 t c =
-    let y = c.requires.0 in
-    omega (arith, y.three)
-
 pub part-bounds-tree-q : goal.part-bounds-tree-q
 part-bounds-tree-q t c =
     let b = c.args.tree.now in
@@ -1617,11 +1585,6 @@ part-bound-requires t c =
     let fits = forms_paths.part-fits b c.args.q g in
     let w = forms_paths.range-from-at b _ _ _ _ _ c.end_of-z.ensures c.if-tree-q.false y g in
     (omega (arith, c.decreases, fits), (w.0, w.1))
-
-pub part-bounds-st-0-2 : goal.part-bounds-st-0-2
-part-bounds-st-0-2 t c =
-    let y = c.requires.0 in
-    omega (arith, y.three, c.bound.ensures.paid.three)
 
 pub part-note-requires-2 : goal.part-note-requires-2
 part-note-requires-2 t c =
@@ -1756,11 +1719,6 @@ path-reserve-requires t c =
     let e = c.requires.3 in
     let h = forms_paths.path-ends b c.args.p _ _ c.end_of-q.ensures c.end_of-z.ensures e g in
     omega (arith, noting.placed-low c.args.o c.args.st.now pl (omega (arith, y.offs)), c.parts_width-w.ensures.1, h.3, y.small)
-
-pub path-bounds-st-0 : goal.path-bounds-st-0
-path-bounds-st-0 t c =
-    let y = c.requires.0 in
-    omega (arith, (noting.reserved c.args.o _ c.args.st.now _ y.three c.reserve.ensures).0)
 
 pub path-overflow_add-p-2 : goal.path-overflow_add-p-2
 path-overflow_add-p-2 t c =
@@ -2097,7 +2055,7 @@ quoted-plain-requires t c =
     let pl = c.requires.2 in
     let fits = term_fits b g.0 c.args.p g.1 in
     let i : is_plain b (c.args.p + 3) c.end_of-z.result ≡ true = sym c.is_plain.ensures ∙ c.if-is_plain.true in
-    (y.three, (forms_quoted.plain-yes b (c.args.p + 3) c.end_of-z.result i).2, omega (arith, c.end_of-z.ensures, fits), y.small, omega (arith, y.nums), omega (arith, y.offs), pl)
+    ((forms_quoted.plain-yes b (c.args.p + 3) c.end_of-z.result i).2, omega (arith, c.end_of-z.ensures, fits), y.small, omega (arith, y.nums), omega (arith, y.offs), pl)
 
 pub quoted-returns-then-is_plain : goal.quoted-returns-then-is_plain
 quoted-returns-then-is_plain t c =
@@ -2141,11 +2099,6 @@ quoted-reserve-requires t c =
     let h = forms_quoted.str-here b c.args.p _ _ c.past-q.ensures c.end_of-z.ensures e g in
     omega (arith, noting.placed-low c.args.o c.args.st.now pl (omega (arith, y.offs)), c.strings_width-w.ensures.1, h.0, y.small)
 
-pub quoted-bounds-st-0 : goal.quoted-bounds-st-0
-quoted-bounds-st-0 t c =
-    let y = c.requires.0 in
-    omega (arith, (noting.reserved c.args.o _ c.args.st.now _ y.three c.reserve.ensures).0)
-
 pub quoted-overflow_add-p-3 : goal.quoted-overflow_add-p-3
 quoted-overflow_add-p-3 t c =
     let b = c.args.tree.now in
@@ -2161,8 +2114,8 @@ quoted-format-requires t c =
     let g = c.requires.1 in
     let e = c.requires.3 in
     let h = forms_quoted.str-here b c.args.p _ _ c.past-q.ensures c.end_of-z.ensures e g in
-    let a = noting.reserved c.args.o _ c.args.st.now _ y.three c.reserve.ensures in
-    (a.0, (y.view, c.args.k, y.seen), h.2, y.small, omega (arith, a.1, y.nums), omega (arith, a.2, y.offs, c.strings_width-w.ensures.1, h.0, y.small), omega (arith, a.3, y.errs))
+    let a = noting.reserved c.args.o _ c.args.st.now _ c.reserve.ensures in
+    ((y.view, c.args.k, y.seen), h.2, y.small, omega (arith, a.0, y.nums), omega (arith, a.1, y.offs, c.strings_width-w.ensures.1, h.0, y.small), omega (arith, a.2, y.errs))
 
 pub quoted-strings-i-requires : goal.quoted-strings-i-requires
 quoted-strings-i-requires t c =
@@ -2230,11 +2183,6 @@ strings-loop-p-init t c =
     let y = c.requires.0 in
     let g = c.requires.1 in
     forms_strings.strings-start b _ _ _ _ _ _ y g
-
-pub strings-bounds-st-0 : goal.strings-bounds-st-0
-strings-bounds-st-0 t c =
-    let v = c.loop-p.invariant in
-    omega (arith, v.ready.three)
 
 pub strings-string-requires : goal.strings-string-requires
 strings-string-requires t c =
@@ -2366,7 +2314,7 @@ term-num-requires t c =
     let y = c.requires.0 in
     let g = c.requires.1 in
     let h = c.requires.2 in
-    (y.three, g, h, c.in-170.is, y.small, omega (arith, y.offs))
+    (g, h, c.in-170.is, y.small, omega (arith, y.offs))
 
 pub term-trial-requires : goal.term-trial-requires
 term-trial-requires t c =
@@ -2415,14 +2363,14 @@ term-returns-in-160 t c =
     let y = c.requires.0 in
     let g = c.requires.1 in
     let h = c.requires.2 in
-    leaves.id-bare _ _ _ _ _ _ _ _ _ _ _ c.in-160.is y.three (omega (arith, y.offs)) c.bare.ensures
+    leaves.id-bare _ _ _ _ _ _ _ _ _ _ _ c.in-160.is (omega (arith, y.offs)) c.bare.ensures
 
 pub term-returns-in-161 : goal.term-returns-in-161
 term-returns-in-161 t c =
     let y = c.requires.0 in
     let g = c.requires.1 in
     let h = c.requires.2 in
-    leaves.recurse-bare _ _ _ _ _ _ _ _ _ _ _ c.in-161.is y.three (omega (arith, y.offs)) c.bare-in-161.ensures
+    leaves.recurse-bare _ _ _ _ _ _ _ _ _ _ _ c.in-161.is (omega (arith, y.offs)) c.bare-in-161.ensures
 
 pub term-returns-in-162 : goal.term-returns-in-162
 term-returns-in-162 t c = c.arr.ensures _

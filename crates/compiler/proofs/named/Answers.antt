@@ -19,7 +19,7 @@ pub returns-then-j-eq0 : goal.returns-then-j-eq0
 returns-then-j-eq0 c =
     let y = c.requires.0.1 in
     let f = asks.stands-fits _ _ c.requires.1 in
-    λ k al. leaves.lost-code _ _ _ _ _ _ _ _ _ _ _ _ _ _ _ _ _ al c.requires.3 y.three (omega (arith, y.offs)) c.end_of-z.ensures f c.find-j.ensures c.if-j-eq0.true c.insert_error.ensures c.put_error.ensures c.bare.ensures
+    λ k al. leaves.lost-code _ _ _ _ _ _ _ _ _ _ _ _ _ _ _ _ _ al c.requires.3 (omega (arith, y.offs)) c.end_of-z.ensures f c.find-j.ensures c.if-j-eq0.true c.insert_error.ensures c.put_error.ensures c.bare.ensures
 
 pub alone-requires : goal.alone-requires
 alone-requires c =
@@ -43,4 +43,4 @@ pub returns : goal.returns
 returns c =
     let y = c.requires.0.1 in
     let f = asks.stands-fits _ _ c.requires.1 in
-    λ k al. leaves.var-code _ _ _ _ _ _ _ _ _ _ _ _ _ _ _ al c.requires.3 y.three (omega (arith, y.offs)) c.end_of-z.ensures c.find-j.ensures c.if-j-eq0.false c.index.ensures c.alone.ensures c.put_one.ensures
+    λ k al. leaves.var-code _ _ _ _ _ _ _ _ _ _ _ _ _ _ _ al c.requires.3 (omega (arith, y.offs)) c.end_of-z.ensures c.find-j.ensures c.if-j-eq0.false c.index.ensures c.alone.ensures c.put_one.ensures

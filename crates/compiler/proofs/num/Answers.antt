@@ -5,44 +5,44 @@ use Rattle.compiler.proofs.num.Goals as goal
 
 pub end_of-z-requires : goal.end_of-z-requires
 end_of-z-requires c =
-    let f = asks.stands-fits _ _ c.requires.1 in
+    let f = asks.stands-fits _ _ c.requires.0 in
     f
 
 pub slice_bounds-int_of-end : goal.slice_bounds-int_of-end
 slice_bounds-int_of-end c =
-    let f = asks.stands-fits _ _ c.requires.1 in
+    let f = asks.stands-fits _ _ c.requires.0 in
     omega (arith, f, c.end_of-z.ensures)
 
 pub alone-requires : goal.alone-requires
 alone-requires c =
-    let f = asks.stands-fits _ _ c.requires.1 in
-    asks.alone-small _ _ c.args.st.now c.requires.0 c.requires.2 c.requires.5 (omega arith)
+    let f = asks.stands-fits _ _ c.requires.0 in
+    asks.alone-small _ _ c.args.st.now c.requires.1 c.requires.4 (omega arith)
 
 pub put_int-requires : goal.put_int-requires
 put_int-requires c =
-    let f = asks.stands-fits _ _ c.requires.1 in
-    asks.alone-spot _ _ _ c.args.st.now c.requires.2 c.requires.5 (omega arith) c.alone.ensures.0
+    let f = asks.stands-fits _ _ c.requires.0 in
+    asks.alone-spot _ _ _ c.args.st.now c.requires.1 c.requires.4 (omega arith) c.alone.ensures.0
 
 pub returns-then-v-lt-NO_INT : goal.returns-then-v-lt-NO_INT
 returns-then-v-lt-NO_INT c =
-    λ x k al. leaves.int-code _ _ _ _ _ _ _ _ _ _ _ _ al c.requires.3 c.requires.0 (omega (arith, c.requires.5)) c.end_of-z.ensures c.int_of-v.ensures c.if-v-lt-NO_INT.true c.alone.ensures c.put_int.ensures
+    λ x k al. leaves.int-code _ _ _ _ _ _ _ _ _ _ _ _ al c.requires.2 (omega (arith, c.requires.4)) c.end_of-z.ensures c.int_of-v.ensures c.if-v-lt-NO_INT.true c.alone.ensures c.put_int.ensures
 
 pub alone-requires-2 : goal.alone-requires-2
 alone-requires-2 c =
-    let f = asks.stands-fits _ _ c.requires.1 in
-    asks.alone-small _ _ c.args.st.now c.requires.0 c.requires.2 c.requires.5 (omega (arith, f, c.end_of-z.ensures, c.requires.4))
+    let f = asks.stands-fits _ _ c.requires.0 in
+    asks.alone-small _ _ c.args.st.now c.requires.1 c.requires.4 (omega (arith, f, c.end_of-z.ensures, c.requires.3))
 
 pub slice_bounds-put_text-end : goal.slice_bounds-put_text-end
 slice_bounds-put_text-end c =
-    let f = asks.stands-fits _ _ c.requires.1 in
+    let f = asks.stands-fits _ _ c.requires.0 in
     omega (arith, f, c.end_of-z.ensures)
 
 pub put_text-requires : goal.put_text-requires
 put_text-requires c =
-    let f = asks.stands-fits _ _ c.requires.1 in
-    asks.text-fits c.args.tree.now c.args.p _ _ _ c.args.st.now c.requires.2 c.requires.5 c.end_of-z.ensures f c.requires.4 c.alone-2.ensures.0
+    let f = asks.stands-fits _ _ c.requires.0 in
+    asks.text-fits c.args.tree.now c.args.p _ _ _ c.args.st.now c.requires.1 c.requires.4 c.end_of-z.ensures f c.requires.3 c.alone-2.ensures.0
 
 pub returns : goal.returns
 returns c =
-    let f = asks.stands-fits _ _ c.requires.1 in
-    λ x k al. leaves.num-code _ _ _ _ _ _ _ _ _ _ _ _ al c.requires.3 c.requires.0 (omega (arith, c.requires.5)) c.end_of-z.ensures c.int_of-v.ensures c.if-v-lt-NO_INT.false f c.alone-2.ensures c.put_text.ensures
+    let f = asks.stands-fits _ _ c.requires.0 in
+    λ x k al. leaves.num-code _ _ _ _ _ _ _ _ _ _ _ _ al c.requires.2 (omega (arith, c.requires.4)) c.end_of-z.ensures c.int_of-v.ensures c.if-v-lt-NO_INT.false f c.alone-2.ensures c.put_text.ensures
