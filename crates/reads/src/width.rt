@@ -9,7 +9,7 @@ ghost use Rattle.reads.specs.Widths.{OwnWidth, pat_width, part_width, parts_widt
 ghost use Rattle.reads.specs.Folds.{FoldOf};
 
 use crate::bytes;
-use crate::bytes::{end_of, is_text, len_of, members, past};
+use crate::bytes::{end_of, fields, is_text, len_of, members, past};
 
 // What int_of gives for a text that is no integer.
 pub const NO_INT: u64 = 0x8000_0000_0000_0000;
@@ -77,12 +77,9 @@ pub fn pattern_width(b: &[u8], q: usize) -> usize
     if tag == 0x98 {
         return 1;
     }
-    let z = end_of(b, q);
-    let mut p = q + 3;
     let mut w = 3;
-    while p < z {
+    for p in fields(b, q + 3, end_of(b, q)) {
         w += 2 + pattern_width(b, bytes::sub_pattern(b, tag, p));
-        p = end_of(b, p);
     }
     w
 }
@@ -225,11 +222,9 @@ pub fn parts_width(b: &[u8], q: usize, z: usize) -> usize
     requires { (z ≤ length b.now) × ((xs : Parts) × Row b.now (f_parts xs rnil) q z) }
     ensures { ((xs : Parts) → Row b.now (f_parts xs rnil) q z → result ≡ parts_width xs) × (result + 2 * q ≤ 2 * z) }
 {
-    let mut p = q;
     let mut w = 0;
-    while p < z {
+    for p in fields(b, q, z) {
         w += part_width(b, p);
-        p = end_of(b, p);
     }
     w
 }
