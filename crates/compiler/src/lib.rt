@@ -145,8 +145,7 @@ fn num(tree: &[u8], p: usize, st: &mut State, out: &mut [u8], o: usize) -> u64
     ensures { (s : List ℕ) (k al : ℕ) → Did tree.now p s s k o st.old st.new out.old out.new al result }
 {
     let z = end_of(tree, p);
-    let v = width::int_of(&tree[p + 3..z]);
-    if v < width::NO_INT {
+    if let Some(v) = width::int_of(&tree[p + 3..z]) {
         put::put_int(out, st.alone(o, 11), v);
         return 0;
     }
