@@ -146,8 +146,7 @@ fn num(tree: &[u8], p: usize, st: &mut [usize; 3], out: &mut [u8], o: usize) -> 
     ensures { (s : List ℕ) (k al : ℕ) → Did tree.now p s s k o st.old st.new out.old out.new al result }
 {
     let z = end_of(tree, p);
-    let v = width::int_of(&tree[p + 3..z]);
-    if v < width::NO_INT {
+    if let Some(v) = width::int_of(&tree[p + 3..z]) {
         put::put_int(out, alone(st, o, 11), v);
         return 0;
     }

@@ -7,3 +7,4 @@ pub mod Folds
 pub mod Subs
 pub mod Texts
 pub mod Bounds
+pub mod Places

@@ -42,18 +42,53 @@ pub fn char_at(b: &[u8], p: usize) -> u32
         + (b[p + 6] as u32) * 16777216
 }
 
+// The places of the fields that stand from `at` up to `end`, each where the one before it ends.
+#[derive(Clone, Copy)]
+pub struct Places<'a> {
+    pub tree: &'a [u8],
+    pub at: usize,
+    pub end: usize,
+}
+
+// The fields from q up to z.
+pub fn fields(b: &[u8], q: usize, z: usize) -> Places<'_>
+    ensures { (result.tree.now ≡ b.now) × (result.at ≡ q) × (result.end ≡ z) }
+{
+    Places {
+        tree: b,
+        at: q,
+        end: z,
+    }
+}
+
+impl<'a> Iterator for Places<'a> {
+    ghost use Rattle.reads.specs.Places.{Stand, GivesField, fields_left};
+
+    type Item = usize;
+
+    ghost can_next = { Stand };
+
+    ghost next_gives = { GivesField };
+
+    ghost remaining = { fields_left };
+
+    #[inline]
+    fn next(&mut self) -> Option<usize> {
+        let p = self.at;
+        if p < self.end {
+            self.at = end_of(self.tree, p);
+            return Some(p);
+        }
+        None
+    }
+}
+
 // How many fields stand from q up to z.
 pub fn members(b: &[u8], q: usize, z: usize) -> usize
     requires { (z ≤ length b.now) × ((rs : Roses) × Row b.now rs q z) }
     ensures { (rs : Roses) → Row b.now rs q z → (result ≡ many rs) × (q + 3 * result ≤ z) }
 {
-    let mut i = 0;
-    let mut p = q;
-    while p < z {
-        p = end_of(b, p);
-        i += 1;
-    }
-    i
+    fields(b, q, z).count()
 }
 
 // Parameters from q on: how many, and the place after them. A term follows them, whose tag is no parameter's.

@@ -1,6 +1,6 @@
 // How long a term's own record is, as far as the tree alone tells. Each width is asked for some tree that stands at the place, and is right for every
 // tree that does.
-ghost use Rattle.std.specs.Prelude.{◌≡◌, cond, ℕ, ◌+◌, ◌*◌, ◌≤◌, ◌<◌, length, get_or};
+ghost use Rattle.std.specs.Prelude.{◌≡◌, cond, ℕ, ◌+◌, ◌*◌, ◌^◌, ◌≤◌, ◌<◌, length, get_or, SomeIff};
 ghost use Rattle.tree.specs.Rose.{rnil, rcons, end_of, text_of, Row};
 ghost use Rattle.tree.specs.Tree.{Term, Pattern, Parts, Part, StrParts, StrPart, Entries};
 ghost use Rattle.tree.specs.Form.{f_part, f_parts, f_str_part, f_str_parts, f_entries};
@@ -9,38 +9,23 @@ ghost use Rattle.reads.specs.Widths.{OwnWidth, pat_width, part_width, parts_widt
 ghost use Rattle.reads.specs.Folds.{FoldOf};
 
 use crate::bytes;
-use crate::bytes::{end_of, is_text, len_of, members, past};
-
-// What int_of gives for a text that is no integer.
-pub const NO_INT: u64 = 0x8000_0000_0000_0000;
+use crate::bytes::{end_of, fields, is_text, len_of, members, past};
 
 // "Num: one or more decimal digits alone, at most 2^63-1, give Int"
-pub fn int_of(x: &[u8]) -> u64
-    ensures { result ≡ int_of x.now }
+pub fn int_of(x: &[u8]) -> Option<u64>
+    ensures { SomeIff result (int_of x.now < 2 ^ 63) (int_of x.now) }
 {
-    if x.len() == 0 {
-        return NO_INT;
+    let mut v: u64 = 0;
+    for digit in x {
+        if !digit.is_ascii_digit() {
+            return None;
+        }
+        v = v.checked_mul(10)?.checked_add(u64::from(*digit - b'0'))?;
     }
-    let mut v = 0;
-    let mut i = 0;
-    while i < x.len() {
-        let d = x[i] as u64;
-        if d < 48 {
-            return NO_INT;
-        }
-        if 57 < d {
-            return NO_INT;
-        }
-        if 922337203685477580 < v {
-            return NO_INT;
-        }
-        v = v * 10 + (d - 48);
-        if NO_INT <= v {
-            return NO_INT;
-        }
-        i += 1;
+    if x.is_empty() || 1 << 63 <= v {
+        return None;
     }
-    v
+    Some(v)
 }
 
 // The own record of the Num at p.
@@ -49,10 +34,10 @@ pub fn num_width(b: &[u8], p: usize) -> usize
     ensures { (result ≡ num_width (text_of b.now p)) × (result + p ≤ end_of b.now p + 8) }
 {
     let z = end_of(b, p);
-    if int_of(&b[p + 3..z]) < NO_INT {
-        return 11;
+    match int_of(&b[p + 3..z]) {
+        Some(_) => 11,
+        None => z - p,
     }
-    z - p
 }
 
 // ---- operators
@@ -77,12 +62,9 @@ pub fn pattern_width(b: &[u8], q: usize) -> usize
     if tag == 0x98 {
         return 1;
     }
-    let z = end_of(b, q);
-    let mut p = q + 3;
     let mut w = 3;
-    while p < z {
+    for p in fields(b, q + 3, end_of(b, q)) {
         w += 2 + pattern_width(b, bytes::sub_pattern(b, tag, p));
-        p = end_of(b, p);
     }
     w
 }
@@ -225,11 +207,9 @@ pub fn parts_width(b: &[u8], q: usize, z: usize) -> usize
     requires { (z ≤ length b.now) × ((xs : Parts) × Row b.now (f_parts xs rnil) q z) }
     ensures { ((xs : Parts) → Row b.now (f_parts xs rnil) q z → result ≡ parts_width xs) × (result + 2 * q ≤ 2 * z) }
 {
-    let mut p = q;
     let mut w = 0;
-    while p < z {
+    for p in fields(b, q, z) {
         w += part_width(b, p);
-        p = end_of(b, p);
     }
     w
 }

@@ -1,6 +1,7 @@
 use Rattle.compiler.specs.FormsA.Leaves as leaves
 use Rattle.compiler.specs.FormsA.Asks as asks
 use native.Mathlib.Omega.{arith}
+use mathlib.Core.Path.{refl}
 use Rattle.compiler.proofs.num.Goals as goal
 
 pub end_of-z-requires : goal.end_of-z-requires
@@ -23,9 +24,10 @@ put_int-requires c =
     let f = asks.stands-fits _ _ c.requires.1 in
     asks.alone-spot _ _ _ c.args.st.now c.requires.2 c.requires.5 (omega arith) c.alone.ensures.0
 
-pub returns-then-v-lt-NO_INT : goal.returns-then-v-lt-NO_INT
-returns-then-v-lt-NO_INT c =
-    λ x k al. leaves.int-code _ _ _ _ _ _ _ _ _ _ _ _ al c.requires.3 c.requires.0 (omega (arith, c.requires.5)) c.end_of-z.ensures c.int_of-v.ensures c.if-v-lt-NO_INT.true c.alone.ensures c.put_int.ensures
+pub returns-in-Some : goal.returns-in-Some
+returns-in-Some c =
+    let i = c.in-Some.ensures in
+    λ x k al. leaves.int-code _ _ _ _ _ _ _ _ _ _ _ _ al c.requires.3 c.requires.0 (omega (arith, c.requires.5)) c.end_of-z.ensures i.1 (omega (arith, i.0, i.1)) c.alone.ensures c.put_int.ensures
 
 pub alone-requires-2 : goal.alone-requires-2
 alone-requires-2 c =
@@ -45,4 +47,4 @@ put_text-requires c =
 pub returns : goal.returns
 returns c =
     let f = asks.stands-fits _ _ c.requires.1 in
-    λ x k al. leaves.num-code _ _ _ _ _ _ _ _ _ _ _ _ al c.requires.3 c.requires.0 (omega (arith, c.requires.5)) c.end_of-z.ensures c.int_of-v.ensures c.if-v-lt-NO_INT.false f c.alone-2.ensures c.put_text.ensures
+    λ x k al. leaves.num-code _ _ _ _ _ _ _ _ _ _ _ _ al c.requires.3 c.requires.0 (omega (arith, c.requires.5)) c.end_of-z.ensures refl (omega (arith, c.in_default.ensures)) f c.alone-2.ensures c.put_text.ensures
