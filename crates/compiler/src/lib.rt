@@ -24,6 +24,7 @@ ghost use Rattle.puts.specs.State.{num, off, ers, start_of, spot_of, next_of, Pu
 ghost use Rattle.cells.specs.Cells.{View, Seen, env_of};
 ghost use Rattle.cells.specs.Notes.{lasts_of, places_in, pair_count};
 ghost use Rattle.compiler.specs.Pieces.{Under, Folding, Noted, Projected, Updating, plain_out, FormatIs, StringIs, EntryIs, LoneIs};
+ghost use Rattle.finds.specs.Numbers.{numbers};
 ghost use Rattle.compiler.specs.Calling.{Meaning, Reserved};
 ghost use Rattle.compiler.specs.Post.{Ready, Stands, Placed, NameIs, Did, Laid, OrEmpty, Else, Passed, Paired, Patterned, Members, Keyed, Parted, PartIs, BoundIs, Strung, Entered, Defined, Scoped};
 
@@ -159,7 +160,7 @@ fn supplied(tree: &[u8], rows: &[u64], x: &[u8], at: usize, st: &mut State, out:
     ensures { ((vw : View) (k p : ℕ) → Seen vw tree.now rows.now k → let q = called vw.top p x.now at 0 (bare []) (env_of vw tree.now rows.now k) empty in Put (slot q) q.errs st.old st.new out.old out.new) × (num st.new ≡ num st.old + 1) × (off st.new ≤ off st.old + 10) × (ers st.new ≤ ers st.old + 11) }
 {
     let f = finds::call(tree, rows, x, at, 0);
-    let o = st.insert(finds::call_width(f.kind, 0));
+    let o = st.insert(finds::call_width(f, 0));
     records::put_call(tree, rows, f, 0, 0, out, o, 0);
     records::fail(rows, f, 0, st, out);
 }
@@ -962,9 +963,9 @@ fn own_key(tree: &[u8], p: usize, rows: &mut [u64], k: usize, st: &mut State, ou
 // ---- calls
 
 // What a call of the name x, which stands at `at`, with a arguments means where k rows are in view: whatever is done to the rows above them.
-fn meaning(tree: &[u8], rows: &[u64], k: usize, x: &[u8], at: usize, a: usize) -> finds::Found
+fn meaning(tree: &[u8], rows: &[u64], k: usize, x: &[u8], at: usize, a: usize) -> finds::Meaning
     requires { ((vw : View) × Seen vw tree.now rows.now k) × (length x.now < 65536) × (at < 2 ^ 32) × (a < 65536) }
-    ensures { Meaning tree.now rows.now k x.now at a result }
+    ensures { Meaning tree.now rows.now k x.now at a (numbers result) }
 {
     finds::call(tree, &rows[..4 * k], x, at, a)
 }
@@ -987,7 +988,7 @@ fn call(
     let q = end_of(tree, p + 3);
     let a = members(tree, q, end_of(tree, p));
     let f = meaning(tree, rows, k, &tree[p + 6..q], p + 6, a);
-    let w = finds::call_width(f.kind, a);
+    let w = finds::call_width(f, a);
     st.reserve(o, w);
     args(tree, q, a, rows, k, st, out);
     records::fail(rows, f, a, st, out);

@@ -20,7 +20,8 @@ use Rattle.rules.specs.Lists.{Member}
 use Rattle.rules.specs.Filters.{Top, home_of, Found, nothing, argument, local, of_module, of_native, find, native_of, definition, included, import_named, found_within, found_else, filter_named, import_meant, part_meant, meant, error_at}
 use Rattle.reads.specs.Bytes.{pair_at, word_of, head_of, colons_of}
 use Rattle.cells.specs.Cells.{View, Seen, outer, env_of, key_of, kind_at, low_of, high_of, Kept, rows_of}
-use Rattle.finds.specs.declared.Found as Hit
+use Rattle.finds.specs.Hits as Hit
+use Rattle.finds.specs.Hits.{row_of, lost_of}
 use Rattle.finds.specs.Means.{matches, first_of, FoundIs, Means}
 use Rattle.finds.specs.Keys.{matches-fits, fits_row}
 use Rattle.finds.specs.Firsts.{first-same}
@@ -28,7 +29,7 @@ use Rattle.finds.specs.Variables.{seen-order}
 use Rattle.finds.specs.Calls.{down_to, ModIs, module-find, LocalIs, NativeIs, Sees, sees}
 use Rattle.finds.specs.Modules.{unset, NumberAt, numbers-end, numbers-at, includes-below, uses-includes, uses-imports, included-more, included-found, ImportIs, import-below, parting-plain, parting-parted}
 use Rattle.finds.specs.Asks as asks
-use Rattle.finds.specs.Asks.{Viewed, Search, Seeks, Defined, Includes, Imports, MeansMod, MeansPlain, row_of, lost_of, outside_of}
+use Rattle.finds.specs.Asks.{Viewed, Search, Seeks, Defined, Includes, Imports, MeansMod, MeansPlain, outside_of}
 use Rattle.finds.proofs.Seeks.{view_first}
 
 -- ---- the definitions of a module

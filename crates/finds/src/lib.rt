@@ -11,7 +11,8 @@ ghost use Rattle.reads.specs.Widths.{call_width};
 ghost use Rattle.cells.specs.Cells.{View, Seen};
 ghost use Rattle.finds.specs.Means.{matches, first_of, Finds, Means};
 ghost use Rattle.finds.specs.Calls.{down_to};
-ghost use Rattle.finds.specs.Asks.{Viewed, Search, Row, Along, Seeks, Defined, Includes, Imports, MeansMod, MeansPlain, row_of, lost_of, outside_of};
+ghost use Rattle.finds.specs.Asks.{Viewed, Search, Row, Along, Seeks, Defined, Includes, Imports, MeansMod, MeansPlain, outside_of};
+ghost use Rattle.finds.specs.Numbers.{numbers};
 
 use cells::{head_of, key};
 use reads::bytes::{colons, end_of, is_text, number_at, same, word};
@@ -55,50 +56,17 @@ pub fn find(tree: &[u8], rows: &[u64], x: &[u8], class: u64) -> usize
     seek(tree, rows, rows[h] as usize, x, w, key(class, x.len(), 0))
 }
 
-// What a call means: a row j, or an error with the place and the length of the name that it is of.
+// What a call means: a row, or an error with the place and the length of the name that it is of.
 #[derive(Clone, Copy)]
-pub struct Found {
-    pub kind: u8,
-    pub j: usize,
-    pub at: usize,
-    pub len: usize,
-}
-
-pub const NO_FILTER: u8 = 0;
-
-pub const NO_MODULE: u8 = 1;
-
-pub const ARGUMENT: u8 = 2;
-
-// Definitions: one that encloses the call, one that stands before it, one of a module.
-pub const PARENT: u8 = 3;
-
-pub const SIBLING: u8 = 4;
-
-pub const OUTER: u8 = 5;
-
-pub const NATIVE: u8 = 6;
-
-fn row(kind: u8, j: usize) -> Found
-    ensures { result ≡ row_of kind j }
-{
-    Found {
-        kind,
-        j,
-        at: 0,
-        len: 0,
-    }
-}
-
-fn lost(kind: u8, at: usize, len: usize) -> Found
-    ensures { result ≡ lost_of kind at len }
-{
-    Found {
-        kind,
-        j: 0,
-        at,
-        len,
-    }
+pub enum Meaning {
+    NoFilter { at: usize, len: usize },
+    NoModule { at: usize, len: usize },
+    Argument(usize),
+    // Definitions: one that encloses the call, one that stands before it, one of a module.
+    Parent(usize),
+    Sibling(usize),
+    Outer(usize),
+    Native(usize),
 }
 
 // "last definition first": from row lo up to hi; 0 for none.
@@ -178,13 +146,13 @@ fn import(tree: &[u8], rows: &[u64], x: &[u8]) -> usize
 
 // "With `::` (first occurrence): last import of that name, and only it; Mod error names the module part, Filter error the rest." The `::` of the
 // name x, which stands at `at`, is at c.
-fn call_mod(tree: &[u8], rows: &[u64], x: &[u8], c: usize, at: usize, a: usize) -> Found
+fn call_mod(tree: &[u8], rows: &[u64], x: &[u8], c: usize, at: usize, a: usize) -> Meaning
     requires { Viewed tree.now rows.now × (length x.now < 65536) × (c ≡ colons_of x.now) × (c < length x.now) × (at < 2 ^ 32) × (a < 65536) }
-    ensures { MeansMod tree.now rows.now x.now c at a result }
+    ensures { MeansMod tree.now rows.now x.now c at a (numbers result) }
 {
     let p = import(tree, rows, &x[..c]);
     if p == 0 {
-        return lost(NO_MODULE, at, c);
+        return Meaning::NoModule { at, len: c };
     }
     let s = c + 2;
     let y = &x[s..];
@@ -197,47 +165,51 @@ fn call_mod(tree: &[u8], rows: &[u64], x: &[u8], c: usize, at: usize, a: usize) 
         key(cells::FILTER, y.len(), a),
     );
     if j == 0 {
-        return lost(NO_FILTER, at + s, y.len());
+        return Meaning::NoFilter {
+            at: at + s,
+            len: y.len(),
+        };
     }
-    row(OUTER, j)
+    Meaning::Outer(j)
 }
 
 // Past the locals: the definition j of an included module, or else f.
-fn outside(j: usize, f: Found) -> Found
-    ensures { result ≡ outside_of j f }
+fn outside(j: usize, f: Meaning) -> Meaning
+    ensures { numbers result ≡ outside_of j (numbers f) }
 {
     if j == 0 {
         return f;
     }
-    row(OUTER, j)
+    Meaning::Outer(j)
 }
 
 // "Filter by name and arity: innermost local; then included modules, ..; then natives, first one first; else Filter error with arity." Natives are
 // the outermost rows in view, and the first one is the innermost of them.
-fn local(tree: &[u8], rows: &[u64], x: &[u8], at: usize, a: usize) -> Found
+fn local(tree: &[u8], rows: &[u64], x: &[u8], at: usize, a: usize) -> Meaning
     requires { Viewed tree.now rows.now × (length x.now < 65536) × (a < 65536) }
-    ensures { MeansPlain tree.now rows.now x.now at a result }
+    ensures { MeansPlain tree.now rows.now x.now at a (numbers result) }
 {
     let w = word(x);
     let u = key(cells::FILTER, x.len(), a);
     let h = head_of(rows, w, x.len());
     let j = seek(tree, rows, rows[h] as usize, x, w, u);
     if j == 0 {
-        return outside(included(tree, rows, x, w, u), lost(NO_FILTER, at, x.len()));
+        let lost = Meaning::NoFilter { at, len: x.len() };
+        return outside(included(tree, rows, x, w, u), lost);
     }
     let k = cells::kind(rows, j);
     match k {
-        2 => row(ARGUMENT, j),
-        3 => row(PARENT, j),
-        4 => row(SIBLING, j),
-        _ => outside(included(tree, rows, x, w, u), row(NATIVE, j)),
+        2 => Meaning::Argument(j),
+        3 => Meaning::Parent(j),
+        4 => Meaning::Sibling(j),
+        _ => outside(included(tree, rows, x, w, u), Meaning::Native(j)),
     }
 }
 
 // What a call of the name x, which stands at `at`, with a arguments means.
-pub fn call(tree: &[u8], rows: &[u64], x: &[u8], at: usize, a: usize) -> Found
+pub fn call(tree: &[u8], rows: &[u64], x: &[u8], at: usize, a: usize) -> Meaning
     requires { Viewed tree.now rows.now × (length x.now < 65536) × (at < 2 ^ 32) × (a < 65536) }
-    ensures { Means tree.now rows.now x.now at a result }
+    ensures { Means tree.now rows.now x.now at a (numbers result) }
 {
     let c = colons(x);
     if c < x.len() {
@@ -247,14 +219,14 @@ pub fn call(tree: &[u8], rows: &[u64], x: &[u8], at: usize, a: usize) -> Found
 }
 
 // The length of the record of a call with a arguments.
-pub fn call_width(kind: u8, a: usize) -> usize
+pub fn call_width(f: Meaning, a: usize) -> usize
     requires { a < 65536 }
-    ensures { result ≡ call_width kind a }
+    ensures { result ≡ call_width (numbers f).kind a }
 {
-    match kind {
-        0 | 1 => 3,
-        2 => 5,
-        6 => 7 + 3 * a,
-        _ => 10 + 3 * a,
+    match f {
+        Meaning::NoFilter { .. } | Meaning::NoModule { .. } => 3,
+        Meaning::Argument(_) => 5,
+        Meaning::Native(_) => 7 + 3 * a,
+        Meaning::Parent(_) | Meaning::Sibling(_) | Meaning::Outer(_) => 10 + 3 * a,
     }
 }

@@ -98,7 +98,7 @@ fn called_width(b: &[u8], p: usize, q: usize, rows: &[u64]) -> usize
     if is_own(b, p, x, a) {
         return 10 + 3 * a;
     }
-    call_width(call(b, rows, x, q + 6, a).kind, a)
+    call_width(call(b, rows, x, q + 6, a), a)
 }
 
 // The own record of the term at q, which the definitions of p are for.

@@ -23,6 +23,7 @@ use Rattle.compiler.specs.FormsB.Whole as whole
 use Rattle.compiler.specs.FormsB.Asks as asks_b
 use Prim.Native.Nat.{ℕ, ◌-◌}
 use mathlib.Core.Path.{sym, ◌∙◌}
+use Rattle.finds.specs.Numbers.{numbers}
 use Rattle.compiler.specs.FormsC.Paths as forms_paths
 use Rattle.compiler.specs.FormsD.Calls.{membered, call-here, call-members, call-name, call-short, call_known, call-reserve, call-ready, call-fail, call-place, call-put, call-did}
 use Rattle.compiler.specs.FormsD.Defs.{ready-cells, def-ready, def_body, def-within, further, def-close, def-did}
@@ -324,19 +325,19 @@ pub call-reserve-requires : goal.call-reserve-requires
 call-reserve-requires t c = let y = c.requires.0 in
     let h = membered _ _ _ _ _ c.end_of.ensures c.members-a.ensures in
     let k = call_known _ _ _ _ c.requires.3 c.requires.1 c.end_of-q.ensures h in
-    call-reserve _ _ _ _ _ _ _ _ c.meaning-f.result _ k y c.requires.2 c.call_width-w.ensures
+    call-reserve _ _ _ _ _ _ _ _ (numbers c.meaning-f.result) _ k y c.requires.2 c.call_width-w.ensures
 
 pub call-args-requires : goal.call-args-requires
 call-args-requires t c = let y = c.requires.0 in
     let h = membered _ _ _ _ _ c.end_of.ensures c.members-a.ensures in
     let k = call_known _ _ _ _ c.requires.3 c.requires.1 c.end_of-q.ensures h in
-    (omega (arith, c.decreases, k.low, k.high, k.fits), call-ready _ _ _ _ _ _ _ _ c.meaning-f.result _ _ k y c.call_width-w.ensures c.reserve.ensures)
+    (omega (arith, c.decreases, k.low, k.high, k.fits), call-ready _ _ _ _ _ _ _ _ (numbers c.meaning-f.result) _ _ k y c.call_width-w.ensures c.reserve.ensures)
 
 pub call-fail-requires : goal.call-fail-requires
 call-fail-requires t c = let y = c.requires.0 in
     let h = membered _ _ _ _ _ c.end_of.ensures c.members-a.ensures in
     let k = call_known _ _ _ _ c.requires.3 c.requires.1 c.end_of-q.ensures h in
-    call-fail _ _ _ _ _ _ _ _ _ c.meaning-f.result _ _ _ _ _ k y c.call_width-w.ensures c.reserve.ensures c.args-2.ensures
+    call-fail _ _ _ _ _ _ _ _ _ (numbers c.meaning-f.result) _ _ _ _ _ k y c.call_width-w.ensures c.reserve.ensures c.args-2.ensures
 
 pub call-place-requires : goal.call-place-requires
 call-place-requires t c = let y = c.requires.0 in

@@ -9,4 +9,4 @@ returns-then-j-eq0 c = rw (eq-eqb c.args.j 0 c.if-j-eq0.true)
 
 pub returns : goal.returns
 unfolding outside_of
-returns c = rw (ne_eqb c.args.j 0 c.if-j-eq0.false) c.row.ensures
+returns c = rw (ne_eqb c.args.j 0 c.if-j-eq0.false)
