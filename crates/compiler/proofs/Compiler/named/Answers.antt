@@ -1,7 +1,7 @@
 use Rattle.compiler.specs.FormsA.Leaves as leaves
 use Rattle.compiler.specs.FormsA.Asks as asks
 use native.Mathlib.Omega.{arith}
-use Rattle.compiler.proofs.named.Goals as goal
+use Rattle.compiler.proofs.Compiler.named.Goals as goal
 
 pub find-j-requires : goal.find-j-requires
 find-j-requires c =
@@ -15,8 +15,8 @@ bare-requires c =
     let f = asks.stands-fits _ _ c.requires.1 in
     asks.lost-fits _ _ _ _ _ _ _ _ _ y c.requires.2 c.insert_error.ensures.1
 
-pub returns-then-j-eq0 : goal.returns-then-j-eq0
-returns-then-j-eq0 c =
+pub returns-then-j-eq0-clause-is : goal.returns-then-j-eq0-clause-is
+returns-then-j-eq0-clause-is c =
     let y = c.requires.0.1 in
     let f = asks.stands-fits _ _ c.requires.1 in
     λ k al. leaves.lost-code _ _ _ _ _ _ _ _ _ _ _ _ _ _ _ _ _ al c.requires.3 (omega (arith, y.offs)) c.end_of-z.ensures f c.find-j.ensures c.if-j-eq0.true c.insert_error.ensures c.put_error.ensures c.bare.ensures
@@ -37,10 +37,10 @@ pub put_one-requires : goal.put_one-requires
 put_one-requires c =
     let y = c.requires.0.1 in
     let f = asks.stands-fits _ _ c.requires.1 in
-    asks.alone-spot _ _ _ c.args.st.now c.requires.2 (omega (arith, y.offs)) (omega arith) c.alone.ensures.0
+    asks.alone-spot _ _ _ c.args.self.now.st c.requires.2 (omega (arith, y.offs)) (omega arith) c.alone.ensures.0
 
-pub returns : goal.returns
-returns c =
+pub returns-clause-is : goal.returns-clause-is
+returns-clause-is c =
     let y = c.requires.0.1 in
     let f = asks.stands-fits _ _ c.requires.1 in
     λ k al. leaves.var-code _ _ _ _ _ _ _ _ _ _ _ _ _ _ _ al c.requires.3 (omega (arith, y.offs)) c.end_of-z.ensures c.find-j.ensures c.if-j-eq0.false c.index.ensures c.alone.ensures c.put_one.ensures

@@ -41,35 +41,35 @@ use Rattle.compiler.specs.FormsC.Quoted as forms_quoted
 use Prim.Native.Nat.{ℕ, ◌<◌, ◌+◌, ◌-◌}
 use Rattle.compiler.specs.FormsC.Strings as forms_strings
 use Rattle.rows.specs.Opened as opened
-use Rattle.compiler.proofs.+compiling.Goals as goal
+use Rattle.compiler.proofs.Compiler.+compiling.Goals as goal
 
 pub args-loop-i-init : goal.args-loop-i-init
-args-loop-i-init t c = passing-start _ _ _ _ _ _ _ c.requires
+args-loop-i-init t c = (record { rows = refl; out = refl }, passing-start _ _ _ _ _ _ _ c.requires)
 
 pub args-overflow_add-k : goal.args-overflow_add-k
-args-overflow_add-k t c = let o = c.loop-i.invariant in omega (arith, o.some.1.spare, o.some.1.seen.small)
+args-overflow_add-k t c = let o = c.loop-i.invariant.1 in omega (arith, o.some.1.spare, o.some.1.seen.small)
 
 pub args-iterm-requires : goal.args-iterm-requires
-args-iterm-requires t c = let o = c.loop-i.invariant in
+args-iterm-requires t c = let o = c.loop-i.invariant.1 in
     (omega (arith, c.decreases, o.low, passing-fits _ _ _ _ _ _ _ _ _ _ _ _ o c.loop-i-test.true), passing-ready _ _ _ _ _ _ _ _ _ _ _ _ o c.loop-i-test.true)
 
 pub args-overflow_add-k-in-loop-i : goal.args-overflow_add-k-in-loop-i
-args-overflow_add-k-in-loop-i t c = let o = c.loop-i.invariant in omega (arith, o.some.1.spare, o.some.1.seen.small)
+args-overflow_add-k-in-loop-i t c = let o = c.loop-i.invariant.1 in omega (arith, o.some.1.spare, o.some.1.seen.small)
 
 pub args-note-requires : goal.args-note-requires
-args-note-requires t c = passing-note _ _ _ _ _ _ _ _ _ _ _ _ c.loop-i.invariant _ _ _ _ c.iterm.ensures c.loop-i-test.true _ refl
+args-note-requires t c = passing-note _ _ _ _ _ _ _ _ _ _ _ _ c.loop-i.invariant.1 _ _ _ _ c.iterm.ensures.is c.loop-i-test.true _ refl
 
 pub args-end_of-p-requires : goal.args-end_of-p-requires
-args-end_of-p-requires t c = passing-fits _ _ _ _ _ _ _ _ _ _ _ _ c.loop-i.invariant c.loop-i-test.true
+args-end_of-p-requires t c = passing-fits _ _ _ _ _ _ _ _ _ _ _ _ c.loop-i.invariant.1 c.loop-i-test.true
 
 pub args-loop-i-smaller : goal.args-loop-i-smaller
 args-loop-i-smaller t c = omega (arith, c.loop-i-test.true)
 
 pub args-loop-i-preserved : goal.args-loop-i-preserved
-args-loop-i-preserved t c = passing-more _ _ _ _ _ _ _ _ _ _ _ _ c.loop-i.invariant _ _ _ _ c.iterm.ensures c.loop-i-test.true _ refl _ c.note.ensures _ c.end_of-p.ensures
+args-loop-i-preserved t c = (record { rows = c.iterm.ensures.same.rows ∙ c.loop-i.invariant.0.rows; out = c.iterm.ensures.same.out ∙ c.loop-i.invariant.0.out }, passing-more _ _ _ _ _ _ _ _ _ _ _ _ c.loop-i.invariant.1 _ _ _ _ c.iterm.ensures.is c.loop-i-test.true _ refl _ c.note.ensures _ c.end_of-p.ensures)
 
-pub args-returns : goal.args-returns
-args-returns t c = passing-done _ _ _ _ _ _ _ _ _ _ _ _ c.loop-i.invariant c.loop-i-test.false
+pub args-returns-clause-is : goal.args-returns-clause-is
+args-returns-clause-is t c = passing-done _ _ _ _ _ _ _ _ _ _ _ _ c.loop-i.invariant.1 c.loop-i-test.false
 
 pub arr-reserve-requires : goal.arr-reserve-requires
 arr-reserve-requires t c =
@@ -102,7 +102,7 @@ arr-place-requires t c =
     let g = c.requires.1 in
     let e = c.requires.3 in
     let f = asks.stands-fits _ _ g in
-    asks.place-or _ _ _ _ _ _ _ _ _ _ _ _ _ _ _ _ _ y c.reserve.ensures (omega arith) c.or_empty.ensures (omega (arith, c.end_of.ensures, f))
+    asks.place-or _ _ _ _ _ _ _ _ _ _ _ _ _ _ _ _ _ y c.reserve.ensures (omega arith) c.or_empty.ensures.is (omega (arith, c.end_of.ensures, f))
 
 pub arr-put_one-requires : goal.arr-put_one-requires
 arr-put_one-requires t c =
@@ -110,15 +110,15 @@ arr-put_one-requires t c =
     let g = c.requires.1 in
     let e = c.requires.3 in
     let f = asks.stands-fits _ _ g in
-    asks.own-or _ _ _ _ _ _ _ _ _ _ _ _ _ _ _ _ _ _ y c.requires.2 c.reserve.ensures (omega arith) c.or_empty.ensures (omega (arith, c.end_of.ensures, f)) c.place.ensures.0
+    asks.own-or _ _ _ _ _ _ _ _ _ _ _ _ _ _ _ _ _ _ y c.requires.2 c.reserve.ensures (omega arith) c.or_empty.ensures.is (omega (arith, c.end_of.ensures, f)) c.place.ensures.0
 
-pub arr-returns : goal.arr-returns
-arr-returns t c =
+pub arr-returns-clause-is : goal.arr-returns-clause-is
+arr-returns-clause-is t c =
     let y = c.requires.0 in
     let g = c.requires.1 in
     let e = c.requires.3 in
     let f = asks.stands-fits _ _ g in
-    simple.arr-did _ _ _ _ _ _ _ _ _ _ _ _ _ _ _ e y g c.reserve.ensures refl (simple.arr-or _ _ _ _ _ _ _ _ _ c.end_of.ensures c.or_empty.ensures) c.place.ensures.0 c.place.ensures.1 c.put_one.ensures
+    simple.arr-did _ _ _ _ _ _ _ _ _ _ _ _ _ _ _ e y g c.reserve.ensures refl (simple.arr-or _ _ _ _ _ _ _ _ _ c.end_of.ensures c.or_empty.ensures.is) c.place.ensures.0 c.place.ensures.1 c.put_one.ensures
 
 pub binary-overflow_add-p : goal.binary-overflow_add-p
 binary-overflow_add-p t c =
@@ -142,10 +142,10 @@ binary-binop-requires t c =
     let y = c.requires.0 in
     (omega (arith, c.decreases), (y, c.requires.1, c.requires.2, c.requires.3, c.end_of-q.ensures, c.if-tree-q.true))
 
-pub binary-returns-then-tree-q : goal.binary-returns-then-tree-q
-binary-returns-then-tree-q t c =
+pub binary-returns-then-tree-q-clause-is : goal.binary-returns-then-tree-q-clause-is
+binary-returns-then-tree-q-clause-is t c =
     let y = c.requires.0 in
-    c.binop.ensures
+    c.binop.ensures.is
 
 pub binary-end_of-requires : goal.binary-end_of-requires
 binary-end_of-requires t c =
@@ -165,10 +165,10 @@ binary-pipe-requires t c =
     let a = shapes.operator-at _ _ c.requires.3 _ c.requires.1.1 in
     (omega (arith, c.decreases), (y, c.requires.1, c.requires.2, c.requires.3, c.end_of-q.ensures, asks_b.not-nine c.args.tree.now c.args.p _ c.end_of-q.ensures a.0 c.if-tree-q.false, sym c.end_of.ensures ∙ c.if-end_of-q.true))
 
-pub binary-returns-then-end_of-q : goal.binary-returns-then-end_of-q
-binary-returns-then-end_of-q t c =
+pub binary-returns-then-end_of-q-clause-is : goal.binary-returns-then-end_of-q-clause-is
+binary-returns-then-end_of-q-clause-is t c =
     let y = c.requires.0 in
-    c.pipe.ensures
+    c.pipe.ensures.is
 
 pub binary-piped-requires : goal.binary-piped-requires
 binary-piped-requires t c =
@@ -176,10 +176,10 @@ binary-piped-requires t c =
     let a = shapes.operator-at _ _ c.requires.3 _ c.requires.1.1 in
     (omega (arith, c.decreases), (y, c.requires.1, c.requires.2, c.requires.3, c.end_of-q.ensures, asks_b.not-nine c.args.tree.now c.args.p _ c.end_of-q.ensures a.0 c.if-tree-q.false, asks_b.has_more c.args.tree.now _ _ c.end_of.ensures c.if-end_of-q.false))
 
-pub binary-returns : goal.binary-returns
-binary-returns t c =
+pub binary-returns-clause-is : goal.binary-returns-clause-is
+binary-returns-clause-is t c =
     let y = c.requires.0 in
-    c.piped.ensures
+    c.piped.ensures.is
 
 pub binop-overflow_add-x : goal.binop-overflow_add-x
 binop-overflow_add-x t c =
@@ -224,25 +224,25 @@ pub binop-iterm-t-requires : goal.binop-iterm-t-requires
 binop-iterm-t-requires t c =
     let y = c.requires.0 in
     let rd = asks_b.binop-read _ _ _ c.requires.3 c.requires.4 c.requires.5 c.requires.1 in
-    (omega (arith, c.decreases, c.requires.4, rd.0), ops.binop-right _ _ _ (get_or c.args.tree.now (c.args.q + 3) 0) _ _ _ _ _ _ c.requires.3 c.requires.4 c.requires.5 refl y c.requires.1 c.op_width-w.ensures c.reserve.ensures _ _ _ _ _ _ c.iterm-s.ensures)
+    (omega (arith, c.decreases, c.requires.4, rd.0), ops.binop-right _ _ _ (get_or c.args.tree.now (c.args.q + 3) 0) _ _ _ _ _ _ c.requires.3 c.requires.4 c.requires.5 refl y c.requires.1 c.op_width-w.ensures c.reserve.ensures _ _ _ _ _ _ c.iterm-s.ensures.is)
 
 pub binop-place-requires : goal.binop-place-requires
 binop-place-requires t c =
     let y = c.requires.0 in
-    omega (arith, (asks_b.binop-put _ _ _ _ _ _ _ _ _ c.requires.3 c.requires.4 c.requires.5 y c.requires.1 c.op_width-w.ensures c.reserve.ensures _ _ 0 _ _ _ _ _ _ _ _ _ c.requires.2 c.iterm-s.ensures c.iterm-t.ensures).0)
+    omega (arith, (asks_b.binop-put _ _ _ _ _ _ _ _ _ c.requires.3 c.requires.4 c.requires.5 y c.requires.1 c.op_width-w.ensures c.reserve.ensures _ _ 0 _ _ _ _ _ _ _ _ _ c.requires.2 c.iterm-s.ensures.is c.iterm-t.ensures.is).0)
 
 pub binop-put_op-requires : goal.binop-put_op-requires
 binop-put_op-requires t c =
     let y = c.requires.0 in
     let rd = asks_b.binop-read _ _ _ c.requires.3 c.requires.4 c.requires.5 c.requires.1 in
-    let r = asks_b.binop-put _ _ _ _ _ _ _ _ _ c.requires.3 c.requires.4 c.requires.5 y c.requires.1 c.op_width-w.ensures c.reserve.ensures _ _ _ _ _ _ _ _ _ _ _ _ c.requires.2 c.iterm-s.ensures c.iterm-t.ensures in
+    let r = asks_b.binop-put _ _ _ _ _ _ _ _ _ c.requires.3 c.requires.4 c.requires.5 y c.requires.1 c.op_width-w.ensures c.reserve.ensures _ _ _ _ _ _ _ _ _ _ _ _ c.requires.2 c.iterm-s.ensures.is c.iterm-t.ensures.is in
     let z = r.1 c.place.ensures.0 in
     (omega (arith, z, r.2), rd.1)
 
-pub binop-returns : goal.binop-returns
-binop-returns t c =
+pub binop-returns-clause-is : goal.binop-returns-clause-is
+binop-returns-clause-is t c =
     let y = c.requires.0 in
-    asks_b.binop-ret _ _ _ _ _ _ _ _ _ c.requires.3 c.requires.4 c.requires.5 y c.requires.1 c.op_width-w.ensures c.reserve.ensures _ _ _ _ _ _ _ _ _ _ _ _ _ _ _ _ _ refl c.left_set.ensures c.iterm-s.ensures refl c.right_set.ensures c.iterm-t.ensures c.place.ensures.0 c.place.ensures.1 c.put_op.ensures
+    asks_b.binop-ret _ _ _ _ _ _ _ _ _ c.requires.3 c.requires.4 c.requires.5 y c.requires.1 c.op_width-w.ensures c.reserve.ensures _ _ _ _ _ _ _ _ _ _ _ _ _ _ _ _ _ refl c.left_set.ensures c.iterm-s.ensures.is refl c.right_set.ensures c.iterm-t.ensures.is c.place.ensures.0 c.place.ensures.1 c.put_op.ensures
 
 pub bound-is_tag-requires : goal.bound-is_tag-requires
 bound-is_tag-requires t c =
@@ -262,14 +262,14 @@ bound-iterm-requires t c =
     let w = forms_paths.bound-ready b _ _ _ _ _ _ y g (sym c.is_tag.ensures ∙ c.if-is_tag.true) in
     (omega (arith, c.decreases, w.0.order, w.0.within), (w.0, w.1))
 
-pub bound-returns-then-is_tag : goal.bound-returns-then-is_tag
-bound-returns-then-is_tag t c =
+pub bound-returns-then-is_tag-clause-is : goal.bound-returns-then-is_tag-clause-is
+bound-returns-then-is_tag-clause-is t c =
     let b = c.args.tree.now in
     let g = c.requires.1 in
-    forms_paths.bound-is b _ _ _ _ _ _ _ _ _ _ _ g (sym c.is_tag.ensures ∙ c.if-is_tag.true) c.iterm.ensures
+    forms_paths.bound-is b _ _ _ _ _ _ _ _ _ _ _ g (sym c.is_tag.ensures ∙ c.if-is_tag.true) c.iterm.ensures.is
 
-pub bound-returns : goal.bound-returns
-bound-returns t c =
+pub bound-returns-clause-is : goal.bound-returns-clause-is
+bound-returns-clause-is t c =
     let b = c.args.tree.now in
     forms_paths.bound-none b _ _ _ _ _ _ _ (sym c.is_tag.ensures ∙ c.if-is_tag.false)
 
@@ -337,28 +337,28 @@ pub call-fail-requires : goal.call-fail-requires
 call-fail-requires t c = let y = c.requires.0 in
     let h = membered _ _ _ _ _ c.end_of.ensures c.members-a.ensures in
     let k = call_known _ _ _ _ c.requires.3 c.requires.1 c.end_of-q.ensures h in
-    call-fail _ _ _ _ _ _ _ _ _ (numbers c.meaning-f.result) _ _ _ _ _ k y c.call_width-w.ensures c.reserve.ensures c.args-2.ensures
+    call-fail _ _ _ _ _ _ _ _ _ (numbers c.meaning-f.result) _ _ _ _ _ k y c.call_width-w.ensures c.reserve.ensures c.args-2.ensures.is
 
 pub call-place-requires : goal.call-place-requires
 call-place-requires t c = let y = c.requires.0 in
     let h = membered _ _ _ _ _ c.end_of.ensures c.members-a.ensures in
     let k = call_known _ _ _ _ c.requires.3 c.requires.1 c.end_of-q.ensures h in
-    call-place _ _ _ _ _ _ _ _ _ _ _ _ _ _ _ k y c.call_width-w.ensures c.reserve.ensures c.args-2.ensures _ _ c.fail.ensures
+    call-place _ _ _ _ _ _ _ _ _ _ _ _ _ _ _ k y c.call_width-w.ensures c.reserve.ensures c.args-2.ensures.is _ _ c.fail.ensures
 
 pub call-put_call-requires : goal.call-put_call-requires
 call-put_call-requires t c = let y = c.requires.0 in
     let h = membered _ _ _ _ _ c.end_of.ensures c.members-a.ensures in
     let k = call_known _ _ _ _ c.requires.3 c.requires.1 c.end_of-q.ensures h in
-    call-put _ _ _ _ _ _ _ _ _ _ _ _ _ _ _ k y c.call_width-w.ensures c.reserve.ensures c.args-2.ensures _ _ c.fail.ensures _ _ c.meaning-f.ensures c.requires.2 _ c.place.ensures.0
+    call-put _ _ _ _ _ _ _ _ _ _ _ _ _ _ _ k y c.call_width-w.ensures c.reserve.ensures c.args-2.ensures.is _ _ c.fail.ensures _ _ c.meaning-f.ensures c.requires.2 _ c.place.ensures.0
 
-pub call-returns : goal.call-returns
-call-returns t c = let y = c.requires.0 in
+pub call-returns-clause-is : goal.call-returns-clause-is
+call-returns-clause-is t c = let y = c.requires.0 in
     let h = membered _ _ _ _ _ c.end_of.ensures c.members-a.ensures in
     let k = call_known _ _ _ _ c.requires.3 c.requires.1 c.end_of-q.ensures h in
-    call-did _ _ _ _ _ _ _ _ _ _ _ _ _ _ _ _ _ _ _ _ _ _ _ c.requires.3 y c.requires.1 c.end_of-q.ensures h (call-name _ _ _ c.end_of-q.ensures) c.meaning-f.ensures c.call_width-w.ensures c.reserve.ensures c.args-2.ensures c.fail.ensures c.place.ensures.0 c.place.ensures.1 c.put_call.ensures
+    call-did _ _ _ _ _ _ _ _ _ _ _ _ _ _ _ _ _ _ _ _ _ _ _ c.requires.3 y c.requires.1 c.end_of-q.ensures h (call-name _ _ _ c.end_of-q.ensures) c.meaning-f.ensures c.call_width-w.ensures c.reserve.ensures c.args-2.ensures.is c.fail.ensures c.place.ensures.0 c.place.ensures.1 c.put_call.ensures
 
-pub def-bounds-rows-1 : goal.def-bounds-rows-1
-def-bounds-rows-1 t c = omega (arith, (ready-cells _ _ _ _ _ _ c.requires.0).0)
+pub def-bounds-self-1 : goal.def-bounds-self-1
+def-bounds-self-1 t c = omega (arith, (ready-cells _ _ _ _ _ _ c.requires.0).0)
 
 pub def-reserve_def-requires : goal.def-reserve_def-requires
 def-reserve_def-requires t c = ((_, c.requires.0), c.requires.1, c.requires.2, c.requires.3)
@@ -374,87 +374,87 @@ def-defs-g-requires t c = let y = c.requires.0 in
 pub def-term-t-requires : goal.def-term-t-requires
 def-term-t-requires t c = let y = c.requires.0 in
     let v = c.reserve_def.ensures in
-    let g = c.defs-g.ensures in
+    let g = c.defs-g.ensures.is in
     (omega (arith, c.decreases, further _ _ _ _ _ _ _ c.requires.3 y c.requires.1 v _ _ _ _ _ _ g, def-within _ _ _ _ _ _ _ c.requires.3 y c.requires.1 v _ _ _ _ _ _ g), def_body _ _ _ _ _ _ _ c.requires.3 y c.requires.1 v _ _ _ _ _ _ g c.requires.2)
 
 pub def-close-requires : goal.def-close-requires
 def-close-requires t c = let y = c.requires.0 in
     let v = c.reserve_def.ensures in
-    def-close _ _ _ _ _ _ _ c.requires.3 y c.requires.1 v _ _ _ _ _ _ c.defs-g.ensures _ _ _ _ c.term-t.ensures
+    def-close _ _ _ _ _ _ _ c.requires.3 y c.requires.1 v _ _ _ _ _ _ c.defs-g.ensures.is _ _ _ _ c.term-t.ensures.is
 
-pub def-returns : goal.def-returns
-def-returns t c = let y = c.requires.0 in
+pub def-returns-clause-is : goal.def-returns-clause-is
+def-returns-clause-is t c = let y = c.requires.0 in
     let v = c.reserve_def.ensures in
-    def-did _ _ _ _ _ _ _ c.requires.3 y c.requires.1 v _ _ _ _ _ _ c.defs-g.ensures _ _ _ _ c.term-t.ensures c.requires.2 _ c.close.ensures
+    def-did _ _ _ _ _ _ _ c.requires.3 y c.requires.1 v _ _ _ _ _ _ c.defs-g.ensures.is _ _ _ _ c.term-t.ensures.is c.requires.2 _ c.close.ensures
 
 pub defs-loop-p-init : goal.defs-loop-p-init
-defs-loop-p-init t c = scoping-start _ _ _ _ _ _ _ c.requires
+defs-loop-p-init t c = (record { rows = refl; out = refl }, scoping-start _ _ _ _ _ _ _ c.requires)
 
 pub defs-bounds-tree-p : goal.defs-bounds-tree-p
-defs-bounds-tree-p t c = omega (arith, (scoping-fits _ _ _ _ _ _ _ _ _ _ _ _ c.loop-p.invariant).0)
+defs-bounds-tree-p t c = omega (arith, (scoping-fits _ _ _ _ _ _ _ _ _ _ _ _ c.loop-p.invariant.1).0)
 
 pub defs-open_def-requires : goal.defs-open_def-requires
-defs-open_def-requires t c = let o = c.loop-p.invariant in
+defs-open_def-requires t c = let o = c.loop-p.invariant.1 in
     (omega (arith, c.decreases, o.rows, o.back.order), scoping-ready _ _ _ _ _ _ _ _ _ _ _ _ o c.loop-p-test.true)
 
 pub defs-end_of-p-requires : goal.defs-end_of-p-requires
-defs-end_of-p-requires t c = (scoping-fits _ _ _ _ _ _ _ _ _ _ _ _ c.loop-p.invariant).0
+defs-end_of-p-requires t c = (scoping-fits _ _ _ _ _ _ _ _ _ _ _ _ c.loop-p.invariant.1).0
 
 pub defs-overflow_add-i : goal.defs-overflow_add-i
-defs-overflow_add-i t c = let o = c.loop-p.invariant in omega (arith, o.some.1.seen.within, o.some.1.seen.small)
+defs-overflow_add-i t c = let o = c.loop-p.invariant.1 in omega (arith, o.some.1.seen.within, o.some.1.seen.small)
 
 pub defs-loop-p-smaller : goal.defs-loop-p-smaller
-defs-loop-p-smaller t c = omega (arith, c.end_of-p.ensures, (scoping-fits _ _ _ _ _ _ _ _ _ _ _ _ c.loop-p.invariant).0)
+defs-loop-p-smaller t c = omega (arith, c.end_of-p.ensures, (scoping-fits _ _ _ _ _ _ _ _ _ _ _ _ c.loop-p.invariant.1).0)
 
 pub defs-loop-p-preserved : goal.defs-loop-p-preserved
-defs-loop-p-preserved t c = scoping-more _ _ _ _ _ _ _ _ _ _ _ _ c.loop-p.invariant c.loop-p-test.true _ _ _ c.open_def.ensures _ c.end_of-p.ensures (ready-cells _ _ _ _ _ _ c.requires.1).1
+defs-loop-p-preserved t c = (record { rows = c.open_def.ensures.same.rows ∙ c.loop-p.invariant.0.rows; out = c.open_def.ensures.same.out ∙ c.loop-p.invariant.0.out }, scoping-more _ _ _ _ _ _ _ _ _ _ _ _ c.loop-p.invariant.1 c.loop-p-test.true _ _ _ c.open_def.ensures.is _ c.end_of-p.ensures (ready-cells _ _ _ _ _ _ c.requires.1).1)
 
-pub defs-returns : goal.defs-returns
-defs-returns t c = scoping-done _ _ _ _ _ _ _ _ _ _ _ _ c.loop-p.invariant c.loop-p-test.false _ refl refl
+pub defs-returns-clause-is : goal.defs-returns-clause-is
+defs-returns-clause-is t c = scoping-done _ _ _ _ _ _ _ _ _ _ _ _ c.loop-p.invariant.1 c.loop-p-test.false _ refl refl
 
 pub entries-loop-p-init : goal.entries-loop-p-init
 entries-loop-p-init t c =
     let b = c.args.tree.now in
     let y = c.requires.0 in
     let g = c.requires.1 in
-    forms_objects.entries-start b _ _ _ _ _ _ y g
+    (record { rows = refl; out = refl }, forms_objects.entries-start b _ _ _ _ _ _ y g)
 
 pub entries-obj_entry-requires : goal.entries-obj_entry-requires
 entries-obj_entry-requires t c =
     let b = c.args.tree.now in
-    let v = c.loop-p.invariant in
+    let v = c.loop-p.invariant.1 in
     let w = forms_objects.entries_next b _ _ _ _ _ _ _ _ _ _ _ v c.loop-p-test.true in
     (omega (arith, c.decreases, v.low, w.1.2.fits), (w.0, w.1))
 
 pub entries-end_of-p-requires : goal.entries-end_of-p-requires
 entries-end_of-p-requires t c =
     let b = c.args.tree.now in
-    let v = c.loop-p.invariant in
+    let v = c.loop-p.invariant.1 in
     let w = forms_objects.entries_next b _ _ _ _ _ _ _ _ _ _ _ v c.loop-p-test.true in
     w.1.2.fits
 
 pub entries-overflow_add-i : goal.entries-overflow_add-i
 entries-overflow_add-i t c =
-    let v = c.loop-p.invariant in
+    let v = c.loop-p.invariant.1 in
     omega (arith, v.ready.seen.within, v.ready.seen.small)
 
 pub entries-loop-p-smaller : goal.entries-loop-p-smaller
 entries-loop-p-smaller t c =
     let b = c.args.tree.now in
-    let v = c.loop-p.invariant in
+    let v = c.loop-p.invariant.1 in
     let w = forms_objects.entries_next b _ _ _ _ _ _ _ _ _ _ _ v c.loop-p-test.true in
     omega (arith, c.end_of-p.ensures, w.1.2.fits)
 
 pub entries-loop-p-preserved : goal.entries-loop-p-preserved
 entries-loop-p-preserved t c =
     let b = c.args.tree.now in
-    let v = c.loop-p.invariant in
-    forms_objects.entries-again b _ _ _ _ _ _ _ _ _ _ _ _ _ _ _ v c.loop-p-test.true c.obj_entry.ensures c.end_of-p.ensures
+    let v = c.loop-p.invariant.1 in
+    (record { rows = c.obj_entry.ensures.same.rows ∙ c.loop-p.invariant.0.rows; out = c.obj_entry.ensures.same.out ∙ c.loop-p.invariant.0.out }, forms_objects.entries-again b _ _ _ _ _ _ _ _ _ _ _ _ _ _ _ v c.loop-p-test.true c.obj_entry.ensures.is c.end_of-p.ensures)
 
-pub entries-returns : goal.entries-returns
-entries-returns t c =
+pub entries-returns-clause-is : goal.entries-returns-clause-is
+entries-returns-clause-is t c =
     let b = c.args.tree.now in
-    let v = c.loop-p.invariant in
+    let v = c.loop-p.invariant.1 in
     forms_objects.entries-done b _ _ _ _ _ _ _ _ _ _ _ v c.loop-p-test.false
 
 pub fold-fold_of-f-requires : goal.fold-fold_of-f-requires
@@ -467,8 +467,8 @@ fold-insert_error-requires t c =
     let y = c.requires.0 in
     omega (arith, y.errs)
 
-pub fold-bounds-rows-3 : goal.fold-bounds-rows-3
-fold-bounds-rows-3 t c =
+pub fold-bounds-self-3 : goal.fold-bounds-self-3
+fold-bounds-self-3 t c =
     let y = c.requires.0 in
     omega (arith, asks_b.rows-some _ _ _ _ _ _ y)
 
@@ -497,8 +497,8 @@ fold-bare-requires t c =
     let y = c.requires.0 in
     asks_b.bare-ask _ _ _ _ _ _ _ _ y c.requires.2 c.insert_error.ensures.1
 
-pub fold-returns-then-f-lt2 : goal.fold-returns-then-f-lt2
-fold-returns-then-f-lt2 t c =
+pub fold-returns-then-f-lt2-clause-is : goal.fold-returns-then-f-lt2-clause-is
+fold-returns-then-f-lt2-clause-is t c =
     let y = c.requires.0 in
     asks_b.fold-lost _ _ _ _ _ _ _ _ _ _ _ _ _ _ _ _ _ _ c.requires.3 y c.requires.1 c.fold_of-f.ensures c.if-f-lt2.true refl refl refl c.insert_error.ensures.0 c.insert_error.ensures.1 c.put_filter_error.ensures c.bare.ensures
 
@@ -517,34 +517,34 @@ pub fold-pattern-i-requires : goal.fold-pattern-i-requires
 fold-pattern-i-requires t c =
     let y = c.requires.0 in
     let h = whole.fold-places _ _ _ c.requires.3 c.requires.1 c.fold_of-f.ensures c.if-f-lt2.false in
-    let r = whole.fold-pattern _ _ _ c.requires.3 c.requires.1 c.fold_of-f.ensures c.if-f-lt2.false _ _ _ _ _ y c.reserve.ensures _ _ _ _ _ c.iterm.ensures in
+    let r = whole.fold-pattern _ _ _ c.requires.3 c.requires.1 c.fold_of-f.ensures c.if-f-lt2.false _ _ _ _ _ y c.reserve.ensures _ _ _ _ _ c.iterm.ensures.is in
     (omega (arith, c.decreases, h.at, h.pat, h.init, h.update, h.last, h.fits), (r.0, r.1, r.2, omega arith))
 
 pub fold-iterm-requires-2 : goal.fold-iterm-requires-2
 fold-iterm-requires-2 t c =
     let y = c.requires.0 in
     let h = whole.fold-places _ _ _ c.requires.3 c.requires.1 c.fold_of-f.ensures c.if-f-lt2.false in
-    (omega (arith, c.decreases, h.at, h.pat, h.init, h.update, h.last, h.fits), whole.fold-init _ _ _ c.requires.3 c.requires.1 c.fold_of-f.ensures c.if-f-lt2.false _ _ _ _ _ y c.reserve.ensures _ _ _ _ _ c.iterm.ensures _ _ _ _ c.pattern-i.ensures)
+    (omega (arith, c.decreases, h.at, h.pat, h.init, h.update, h.last, h.fits), whole.fold-init _ _ _ c.requires.3 c.requires.1 c.fold_of-f.ensures c.if-f-lt2.false _ _ _ _ _ y c.reserve.ensures _ _ _ _ _ c.iterm.ensures.is _ _ _ _ c.pattern-i.ensures.is)
 
 pub fold-update-u-requires : goal.fold-update-u-requires
 fold-update-u-requires t c =
     let y = c.requires.0 in
-    (omega (arith, c.decreases), whole.fold-update _ _ _ c.requires.3 c.requires.1 c.fold_of-f.ensures c.if-f-lt2.false _ _ _ _ _ y c.reserve.ensures _ _ _ _ _ c.iterm.ensures _ _ _ _ c.pattern-i.ensures _ _ _ _ c.iterm-2.ensures)
+    (omega (arith, c.decreases), whole.fold-update _ _ _ c.requires.3 c.requires.1 c.fold_of-f.ensures c.if-f-lt2.false _ _ _ _ _ y c.reserve.ensures _ _ _ _ _ c.iterm.ensures.is _ _ _ _ c.pattern-i.ensures.is _ _ _ _ c.iterm-2.ensures.is)
 
 pub fold-place-requires : goal.fold-place-requires
 fold-place-requires t c =
     let y = c.requires.0 in
-    asks_b.fold-place _ _ _ c.requires.3 c.requires.1 c.fold_of-f.ensures c.if-f-lt2.false _ _ _ _ _ y c.reserve.ensures _ _ _ _ _ c.iterm.ensures _ _ _ _ c.pattern-i.ensures _ _ _ _ c.iterm-2.ensures _ _ _ _ _ c.update-u.ensures c.requires.2
+    asks_b.fold-place _ _ _ c.requires.3 c.requires.1 c.fold_of-f.ensures c.if-f-lt2.false _ _ _ _ _ y c.reserve.ensures _ _ _ _ _ c.iterm.ensures.is _ _ _ _ c.pattern-i.ensures.is _ _ _ _ c.iterm-2.ensures.is _ _ _ _ _ c.update-u.ensures.is c.requires.2
 
 pub fold-put_fold-requires : goal.fold-put_fold-requires
 fold-put_fold-requires t c =
     let y = c.requires.0 in
-    (whole.fold-put _ _ _ c.requires.3 c.requires.1 c.fold_of-f.ensures c.if-f-lt2.false _ _ _ _ _ y c.reserve.ensures _ _ _ _ _ c.iterm.ensures _ _ _ _ c.pattern-i.ensures _ _ _ _ c.iterm-2.ensures _ _ _ _ _ _ _ _ _ c.update-u.ensures refl refl refl c.requires.2 c.place.ensures.0).0
+    (whole.fold-put _ _ _ c.requires.3 c.requires.1 c.fold_of-f.ensures c.if-f-lt2.false _ _ _ _ _ y c.reserve.ensures _ _ _ _ _ c.iterm.ensures.is _ _ _ _ c.pattern-i.ensures.is _ _ _ _ c.iterm-2.ensures.is _ _ _ _ _ _ _ _ _ c.update-u.ensures.is refl refl refl c.requires.2 c.place.ensures.0).0
 
-pub fold-returns : goal.fold-returns
-fold-returns t c =
+pub fold-returns-clause-is : goal.fold-returns-clause-is
+fold-returns-clause-is t c =
     let y = c.requires.0 in
-    whole.fold-did _ _ _ c.requires.3 c.requires.1 c.fold_of-f.ensures c.if-f-lt2.false _ _ _ _ _ y c.reserve.ensures _ _ _ _ _ c.iterm.ensures _ _ _ _ c.pattern-i.ensures _ _ _ _ c.iterm-2.ensures _ _ _ _ _ _ _ _ _ c.update-u.ensures refl refl refl _ _ c.place.ensures.0 c.place.ensures.1 c.put_fold.ensures
+    whole.fold-did _ _ _ c.requires.3 c.requires.1 c.fold_of-f.ensures c.if-f-lt2.false _ _ _ _ _ y c.reserve.ensures _ _ _ _ _ c.iterm.ensures.is _ _ _ _ c.pattern-i.ensures.is _ _ _ _ c.iterm-2.ensures.is _ _ _ _ _ _ _ _ _ c.update-u.ensures.is refl refl refl _ _ c.place.ensures.0 c.place.ensures.1 c.put_fold.ensures
 
 pub ite-end_of-z-requires : goal.ite-end_of-z-requires
 ite-end_of-z-requires t c =
@@ -578,8 +578,8 @@ ite-other-t-requires t c =
     let e = c.requires.3 in
     let f = asks.stands-fits _ _ g in
     let w = asks.ite-at _ _ _ _ _ c.end_of-z.ensures (conditional.ite-ready _ _ _ _ _ _ _ e y g c.reserve.ensures) in
-    let v = conditional.ite-other _ _ _ _ _ _ _ _ _ _ _ _ w.0 w.1 c.pairs-a.ensures in
-    (omega (arith, c.decreases, f, c.pairs-a.ensures.rows, v.2), (v.0, v.1))
+    let v = conditional.ite-other _ _ _ _ _ _ _ _ _ _ _ _ w.0 w.1 c.pairs-a.ensures.is in
+    (omega (arith, c.decreases, f, c.pairs-a.ensures.is.rows, v.2), (v.0, v.1))
 
 pub ite-elses-n-requires : goal.ite-elses-n-requires
 ite-elses-n-requires t c =
@@ -588,8 +588,8 @@ ite-elses-n-requires t c =
     let e = c.requires.3 in
     let f = asks.stands-fits _ _ g in
     let w = asks.ite-at _ _ _ _ _ c.end_of-z.ensures (conditional.ite-ready _ _ _ _ _ _ _ e y g c.reserve.ensures) in
-    let v = conditional.ite-other _ _ _ _ _ _ _ _ _ _ _ _ w.0 w.1 c.pairs-a.ensures in
-    asks.elses-ask _ _ _ _ _ _ _ c.pairs-a.result _ _ _ _ v.0 v.2 c.other-t.ensures
+    let v = conditional.ite-other _ _ _ _ _ _ _ _ _ _ _ _ w.0 w.1 c.pairs-a.ensures.is in
+    asks.elses-ask _ _ _ _ _ _ _ c.pairs-a.result _ _ _ _ v.0 v.2 c.other-t.ensures.is
 
 pub ite-place-requires : goal.ite-place-requires
 ite-place-requires t c =
@@ -598,8 +598,8 @@ ite-place-requires t c =
     let e = c.requires.3 in
     let f = asks.stands-fits _ _ g in
     let w = asks.ite-at _ _ _ _ _ c.end_of-z.ensures (conditional.ite-ready _ _ _ _ _ _ _ e y g c.reserve.ensures) in
-    let v = conditional.ite-other _ _ _ _ _ _ _ _ _ _ _ _ w.0 w.1 c.pairs-a.ensures in
-    (asks.ite-place _ _ _ _ _ _ _ c.pairs-a.result _ _ _ _ _ _ _ v.0 v.2 c.other-t.ensures c.elses-n.ensures).0
+    let v = conditional.ite-other _ _ _ _ _ _ _ _ _ _ _ _ w.0 w.1 c.pairs-a.ensures.is in
+    (asks.ite-place _ _ _ _ _ _ _ c.pairs-a.result _ _ _ _ _ _ _ v.0 v.2 c.other-t.ensures.is c.elses-n.ensures).0
 
 pub ite-put_pair-requires : goal.ite-put_pair-requires
 ite-put_pair-requires t c =
@@ -608,16 +608,16 @@ ite-put_pair-requires t c =
     let e = c.requires.3 in
     let f = asks.stands-fits _ _ g in
     let w = asks.ite-at _ _ _ _ _ c.end_of-z.ensures (conditional.ite-ready _ _ _ _ _ _ _ e y g c.reserve.ensures) in
-    let v = conditional.ite-other _ _ _ _ _ _ _ _ _ _ _ _ w.0 w.1 c.pairs-a.ensures in
-    asks.ite-own _ _ _ _ _ _ _ _ _ _ c.pairs-a.result _ _ _ _ _ _ _ _ _ _ y c.requires.2 v.0 v.2 c.other-t.ensures c.elses-n.ensures c.place.ensures.0 (asks.some_pair _ _ _ _ _ _ _ _ _ _ _ e g (asks.paired_at _ _ _ _ _ _ _ _ _ _ _ _ c.end_of-z.ensures c.pairs-a.ensures))
+    let v = conditional.ite-other _ _ _ _ _ _ _ _ _ _ _ _ w.0 w.1 c.pairs-a.ensures.is in
+    asks.ite-own _ _ _ _ _ _ _ _ _ _ c.pairs-a.result _ _ _ _ _ _ _ _ _ _ y c.requires.2 v.0 v.2 c.other-t.ensures.is c.elses-n.ensures c.place.ensures.0 (asks.some_pair _ _ _ _ _ _ _ _ _ _ _ e g (asks.paired_at _ _ _ _ _ _ _ _ _ _ _ _ c.end_of-z.ensures c.pairs-a.ensures.is))
 
-pub ite-returns : goal.ite-returns
-ite-returns t c =
+pub ite-returns-clause-is : goal.ite-returns-clause-is
+ite-returns-clause-is t c =
     let y = c.requires.0 in
     let g = c.requires.1 in
     let e = c.requires.3 in
     let f = asks.stands-fits _ _ g in
-    conditional.ite-did _ _ _ _ _ _ _ _ _ _ _ _ _ _ _ _ _ _ _ _ _ _ _ _ e y g c.reserve.ensures (asks.paired_at _ _ _ _ _ _ _ _ _ _ _ _ c.end_of-z.ensures c.pairs-a.ensures) (asks.else-at _ _ _ _ _ _ _ _ _ _ _ _ _ c.end_of-z.ensures c.other-t.ensures) c.elses-n.ensures c.place.ensures.0 c.place.ensures.1 c.put_pair.ensures refl
+    conditional.ite-did _ _ _ _ _ _ _ _ _ _ _ _ _ _ _ _ _ _ _ _ _ _ _ _ e y g c.reserve.ensures (asks.paired_at _ _ _ _ _ _ _ _ _ _ _ _ c.end_of-z.ensures c.pairs-a.ensures.is) (asks.else-at _ _ _ _ _ _ _ _ _ _ _ _ _ c.end_of-z.ensures c.other-t.ensures.is) c.elses-n.ensures c.place.ensures.0 c.place.ensures.1 c.put_pair.ensures refl
 
 pub items-end_of-z-requires : goal.items-end_of-z-requires
 items-end_of-z-requires t c =
@@ -632,59 +632,59 @@ items-overflow_add-p t c =
 pub items-loop-p-init : goal.items-loop-p-init
 items-loop-p-init t c =
     let y = c.requires.0 in
-    mems.items-start _ _ _ _ _ _ y c.requires.1 c.requires.2
+    (record { rows = refl; out = refl }, mems.items-start _ _ _ _ _ _ y c.requires.1 c.requires.2)
 
 pub items-insert-requires : goal.items-insert-requires
 items-insert-requires t c =
     let y = c.requires.0 in
-    let g = c.loop-p.invariant in
+    let g = c.loop-p.invariant.1 in
     (omega (arith, g.ready.nums), omega (arith, g.ready.offs))
 
 pub items-put_int-requires : goal.items-put_int-requires
 items-put_int-requires t c =
     let y = c.requires.0 in
-    let g = c.loop-p.invariant in
+    let g = c.loop-p.invariant.1 in
     omega (arith, g.ready.offs, c.insert.ensures.0)
 
 pub items-pattern-j-requires : goal.items-pattern-j-requires
 items-pattern-j-requires t c =
     let y = c.requires.0 in
-    let g = c.loop-p.invariant in
+    let g = c.loop-p.invariant.1 in
     let a = asks_b.items-ask _ _ _ _ _ _ _ _ _ _ _ _ g _ c.end_of-z.ensures c.loop-p-test.true _ _ c.insert.ensures.0 c.insert.ensures.1 in
     (omega (arith, c.decreases, g.few, g.ready.order, y.within, c.loop-p-test.true, c.end_of-z.ensures, g.rows, g.order), a)
 
 pub items-end_of-p-requires : goal.items-end_of-p-requires
 items-end_of-p-requires t c =
     let y = c.requires.0 in
-    let g = c.loop-p.invariant in
+    let g = c.loop-p.invariant.1 in
     asks_b.items-fits _ _ _ _ _ _ _ _ _ _ _ _ g _ c.end_of-z.ensures c.loop-p-test.true
 
 pub items-overflow_add-i : goal.items-overflow_add-i
 items-overflow_add-i t c =
     let y = c.requires.0 in
-    let g = c.loop-p.invariant in
+    let g = c.loop-p.invariant.1 in
     omega (arith, g.few, g.ready.order, y.within, y.small)
 
 pub items-loop-p-smaller : goal.items-loop-p-smaller
 items-loop-p-smaller t c =
     let y = c.requires.0 in
-    let g = c.loop-p.invariant in
+    let g = c.loop-p.invariant.1 in
     omega (arith, c.end_of-p.ensures, asks_b.items-fits _ _ _ _ _ _ _ _ _ _ _ _ g _ c.end_of-z.ensures c.loop-p-test.true)
 
 pub items-loop-p-preserved : goal.items-loop-p-preserved
 items-loop-p-preserved t c =
     let y = c.requires.0 in
-    let g = c.loop-p.invariant in
-    asks_b.items-again _ _ _ _ _ _ _ _ _ _ _ _ g _ c.end_of-z.ensures c.loop-p-test.true _ _ _ _ _ _ _ _ _ refl c.insert.ensures.0 c.insert.ensures.1 c.put_int.ensures c.pattern-j.ensures c.end_of-p.ensures
+    let g = c.loop-p.invariant.1 in
+    (record { rows = c.pattern-j.ensures.same.rows ∙ c.loop-p.invariant.0.rows; out = c.pattern-j.ensures.same.out ∙ c.loop-p.invariant.0.out }, asks_b.items-again _ _ _ _ _ _ _ _ _ _ _ _ g _ c.end_of-z.ensures c.loop-p-test.true _ _ _ _ _ _ _ _ _ refl c.insert.ensures.0 c.insert.ensures.1 c.put_int.ensures c.pattern-j.ensures.is c.end_of-p.ensures)
 
-pub items-returns : goal.items-returns
-items-returns t c =
+pub items-returns-clause-is : goal.items-returns-clause-is
+items-returns-clause-is t c =
     let y = c.requires.0 in
-    let g = c.loop-p.invariant in
+    let g = c.loop-p.invariant.1 in
     mems.items-done _ _ _ _ _ _ _ _ _ _ _ _ g (omega (arith, c.loop-p-test.false, c.end_of-z.ensures))
 
-pub iterm-overflow_add-st : goal.iterm-overflow_add-st
-iterm-overflow_add-st t c =
+pub iterm-overflow_add-self : goal.iterm-overflow_add-self
+iterm-overflow_add-self t c =
     omega (arith, c.requires.0.nums)
 
 pub iterm-bounds-tree-p : goal.iterm-bounds-tree-p
@@ -723,37 +723,37 @@ iterm-term-requires t c =
     let w = terms.number-ready _ _ _ _ _ _ _ y refl refl in
     (omega (arith, c.decreases), (w.0, g, w.1))
 
-pub iterm-returns-in-160 : goal.iterm-returns-in-160
-iterm-returns-in-160 t c =
+pub iterm-returns-in-160-clause-is : goal.iterm-returns-in-160-clause-is
+iterm-returns-in-160-clause-is t c =
     let y = c.requires.0 in
     let g = c.requires.1 in
     let f = asks.stands-fits _ _ g in
     let w = terms.number-ready _ _ _ _ _ _ _ y refl refl in
     terms.laid_of _ _ _ _ _ _ _ _ _ _ _ _ _ y g refl refl (leaves.id-bare _ _ _ _ _ _ _ _ _ _ _ c.in-160.is (omega (arith, w.0.offs)) c.bare.ensures)
 
-pub iterm-returns-in-167 : goal.iterm-returns-in-167
-iterm-returns-in-167 t c =
+pub iterm-returns-in-167-clause-is : goal.iterm-returns-in-167-clause-is
+iterm-returns-in-167-clause-is t c =
     let y = c.requires.0 in
     let g = c.requires.1 in
     let f = asks.stands-fits _ _ g in
     let w = terms.number-ready _ _ _ _ _ _ _ y refl refl in
-    terms.laid_of _ _ _ _ _ _ _ _ _ _ _ _ _ y g refl refl (c.named.ensures _ _)
+    terms.laid_of _ _ _ _ _ _ _ _ _ _ _ _ _ y g refl refl (c.named.ensures.is _ _)
 
-pub iterm-returns-in-170 : goal.iterm-returns-in-170
-iterm-returns-in-170 t c =
+pub iterm-returns-in-170-clause-is : goal.iterm-returns-in-170-clause-is
+iterm-returns-in-170-clause-is t c =
     let y = c.requires.0 in
     let g = c.requires.1 in
     let f = asks.stands-fits _ _ g in
     let w = terms.number-ready _ _ _ _ _ _ _ y refl refl in
-    terms.laid_of _ _ _ _ _ _ _ _ _ _ _ _ _ y g refl refl (c.num.ensures _ _ _)
+    terms.laid_of _ _ _ _ _ _ _ _ _ _ _ _ _ y g refl refl (c.num.ensures.is _ _)
 
-pub iterm-returns-in_default : goal.iterm-returns-in_default
-iterm-returns-in_default t c =
+pub iterm-returns-in_default-clause-is : goal.iterm-returns-in_default-clause-is
+iterm-returns-in_default-clause-is t c =
     let y = c.requires.0 in
     let g = c.requires.1 in
     let f = asks.stands-fits _ _ g in
     let w = terms.number-ready _ _ _ _ _ _ _ y refl refl in
-    terms.laid_of _ _ _ _ _ _ _ _ _ _ _ _ _ y g refl refl c.term.ensures
+    terms.laid_of _ _ _ _ _ _ _ _ _ _ _ _ _ y g refl refl c.term.ensures.is
 
 pub keyed-end_of-z-requires : goal.keyed-end_of-z-requires
 keyed-end_of-z-requires t c =
@@ -768,18 +768,18 @@ keyed-overflow_add-p t c =
 pub keyed-loop-p-init : goal.keyed-loop-p-init
 keyed-loop-p-init t c =
     let y = c.requires.0 in
-    mems.keyed-start _ _ _ _ _ _ y c.requires.1 c.requires.2
+    (record { rows = refl; out = refl }, mems.keyed-start _ _ _ _ _ _ y c.requires.1 c.requires.2)
 
 pub keyed-overflow_add-p-in-loop-p : goal.keyed-overflow_add-p-in-loop-p
 keyed-overflow_add-p-in-loop-p t c =
     let y = c.requires.0 in
-    let g = c.loop-p.invariant in
+    let g = c.loop-p.invariant.1 in
     omega (arith, g.ready.order, y.within, y.small)
 
 pub keyed-iterm-requires : goal.keyed-iterm-requires
 keyed-iterm-requires t c =
     let y = c.requires.0 in
-    let g = c.loop-p.invariant in
+    let g = c.loop-p.invariant.1 in
     let a = asks_b.keyed-ask _ _ _ _ _ _ _ _ _ _ _ g _ c.end_of-z.ensures c.loop-p-test.true in
     let z = asks_b.keyed-ends _ _ _ _ _ _ _ _ _ _ _ g _ c.end_of-z.ensures c.loop-p-test.true in
     (omega (arith, c.decreases, z.1, z.2, g.rows, g.order), (a.0, a.1))
@@ -787,45 +787,45 @@ keyed-iterm-requires t c =
 pub keyed-overflow_add-p-in-loop-p-2 : goal.keyed-overflow_add-p-in-loop-p-2
 keyed-overflow_add-p-in-loop-p-2 t c =
     let y = c.requires.0 in
-    let g = c.loop-p.invariant in
+    let g = c.loop-p.invariant.1 in
     omega (arith, g.ready.order, y.within, y.small)
 
 pub keyed-end_of-requires : goal.keyed-end_of-requires
 keyed-end_of-requires t c =
     let y = c.requires.0 in
-    let g = c.loop-p.invariant in
+    let g = c.loop-p.invariant.1 in
     (asks_b.keyed-ends _ _ _ _ _ _ _ _ _ _ _ g _ c.end_of-z.ensures c.loop-p-test.true).0
 
 pub keyed-pattern-j-requires : goal.keyed-pattern-j-requires
 keyed-pattern-j-requires t c =
     let y = c.requires.0 in
-    let g = c.loop-p.invariant in
+    let g = c.loop-p.invariant.1 in
     let z = asks_b.keyed-ends _ _ _ _ _ _ _ _ _ _ _ g _ c.end_of-z.ensures c.loop-p-test.true in
-    (omega (arith, c.decreases, z.1, z.2, g.rows, g.order, c.end_of.ensures), asks_b.keyed-ask-pattern _ _ _ _ _ _ _ _ _ _ _ g _ c.end_of-z.ensures c.loop-p-test.true _ _ _ _ _ c.iterm.ensures c.end_of.ensures)
+    (omega (arith, c.decreases, z.1, z.2, g.rows, g.order, c.end_of.ensures), asks_b.keyed-ask-pattern _ _ _ _ _ _ _ _ _ _ _ g _ c.end_of-z.ensures c.loop-p-test.true _ _ _ _ _ c.iterm.ensures.is c.end_of.ensures)
 
 pub keyed-end_of-p-requires : goal.keyed-end_of-p-requires
 keyed-end_of-p-requires t c =
     let y = c.requires.0 in
-    let g = c.loop-p.invariant in
+    let g = c.loop-p.invariant.1 in
     (asks_b.keyed-ends _ _ _ _ _ _ _ _ _ _ _ g _ c.end_of-z.ensures c.loop-p-test.true).1
 
 pub keyed-loop-p-smaller : goal.keyed-loop-p-smaller
 keyed-loop-p-smaller t c =
     let y = c.requires.0 in
-    let g = c.loop-p.invariant in
+    let g = c.loop-p.invariant.1 in
     let z = asks_b.keyed-ends _ _ _ _ _ _ _ _ _ _ _ g _ c.end_of-z.ensures c.loop-p-test.true in
     omega (arith, c.end_of-p.ensures, z.1, z.2)
 
 pub keyed-loop-p-preserved : goal.keyed-loop-p-preserved
 keyed-loop-p-preserved t c =
     let y = c.requires.0 in
-    let g = c.loop-p.invariant in
-    asks_b.keyed-again _ _ _ _ _ _ _ _ _ _ _ g _ c.end_of-z.ensures c.loop-p-test.true _ _ _ _ _ c.iterm.ensures c.end_of.ensures _ _ _ _ _ _ refl c.pattern-j.ensures c.end_of-p.ensures
+    let g = c.loop-p.invariant.1 in
+    (record { rows = c.pattern-j.ensures.same.rows ∙ c.iterm.ensures.same.rows ∙ c.loop-p.invariant.0.rows; out = c.pattern-j.ensures.same.out ∙ c.iterm.ensures.same.out ∙ c.loop-p.invariant.0.out }, asks_b.keyed-again _ _ _ _ _ _ _ _ _ _ _ g _ c.end_of-z.ensures c.loop-p-test.true _ _ _ _ _ c.iterm.ensures.is c.end_of.ensures _ _ _ _ _ _ refl c.pattern-j.ensures.is c.end_of-p.ensures)
 
-pub keyed-returns : goal.keyed-returns
-keyed-returns t c =
+pub keyed-returns-clause-is : goal.keyed-returns-clause-is
+keyed-returns-clause-is t c =
     let y = c.requires.0 in
-    let g = c.loop-p.invariant in
+    let g = c.loop-p.invariant.1 in
     mems.keyed-done _ _ _ _ _ _ _ _ _ _ _ g (omega (arith, c.loop-p-test.false, c.end_of-z.ensures))
 
 pub label-reserve-requires : goal.label-reserve-requires
@@ -836,8 +836,8 @@ label-reserve-requires t c =
     let f = asks.stands-fits _ _ g in
     asks.reserve-fits _ _ _ _ _ _ _ _ y c.requires.2 (omega arith)
 
-pub label-bounds-rows-1 : goal.label-bounds-rows-1
-label-bounds-rows-1 t c =
+pub label-bounds-self-1 : goal.label-bounds-self-1
+label-bounds-self-1 t c =
     let y = c.requires.0 in
     let g = c.requires.1 in
     let e = c.requires.3 in
@@ -877,7 +877,7 @@ label-close-requires t c =
     let e = c.requires.3 in
     let f = asks.stands-fits _ _ g in
     let r = asks.label-rows _ _ _ _ _ _ e y g c.bind.ensures in
-    asks.close-asks _ _ _ _ _ _ _ _ _ y (λ vw v. (r.0 vw v).0) (omega arith) c.iterm.ensures.paid.kept c.iterm.ensures.paid.same
+    asks.close-asks _ _ _ _ _ _ _ _ _ y (λ vw v. (r.0 vw v).0) (omega arith) c.iterm.ensures.is.paid.kept c.iterm.ensures.is.paid.same
 
 pub label-place-requires : goal.label-place-requires
 label-place-requires t c =
@@ -887,7 +887,7 @@ label-place-requires t c =
     let f = asks.stands-fits _ _ g in
     let r = asks.label-rows _ _ _ _ _ _ e y g c.bind.ensures in
     let w = simple.label-ready _ _ _ _ _ _ _ _ e y g c.reserve.ensures r.1.same r.0 in
-    asks.place-laid _ _ _ _ _ _ _ _ _ _ _ _ _ _ _ _ _ _ y c.reserve.ensures (omega arith) (simple.laid-at _ _ _ _ _ _ _ _ _ _ _ _ c.end_of.ensures c.iterm.ensures) (asks.stands-fits _ _ w.1)
+    asks.place-laid _ _ _ _ _ _ _ _ _ _ _ _ _ _ _ _ _ _ y c.reserve.ensures (omega arith) (simple.laid-at _ _ _ _ _ _ _ _ _ _ _ _ c.end_of.ensures c.iterm.ensures.is) (asks.stands-fits _ _ w.1)
 
 pub label-put_one-requires : goal.label-put_one-requires
 label-put_one-requires t c =
@@ -897,17 +897,17 @@ label-put_one-requires t c =
     let f = asks.stands-fits _ _ g in
     let r = asks.label-rows _ _ _ _ _ _ e y g c.bind.ensures in
     let w = simple.label-ready _ _ _ _ _ _ _ _ e y g c.reserve.ensures r.1.same r.0 in
-    asks.own-laid _ _ _ _ _ _ _ _ _ _ _ _ _ _ _ _ _ _ _ y c.requires.2 c.reserve.ensures (omega arith) (simple.laid-at _ _ _ _ _ _ _ _ _ _ _ _ c.end_of.ensures c.iterm.ensures) (asks.stands-fits _ _ w.1) c.place.ensures.0
+    asks.own-laid _ _ _ _ _ _ _ _ _ _ _ _ _ _ _ _ _ _ _ y c.requires.2 c.reserve.ensures (omega arith) (simple.laid-at _ _ _ _ _ _ _ _ _ _ _ _ c.end_of.ensures c.iterm.ensures.is) (asks.stands-fits _ _ w.1) c.place.ensures.0
 
-pub label-returns : goal.label-returns
-label-returns t c =
+pub label-returns-clause-is : goal.label-returns-clause-is
+label-returns-clause-is t c =
     let y = c.requires.0 in
     let g = c.requires.1 in
     let e = c.requires.3 in
     let f = asks.stands-fits _ _ g in
     let r = asks.label-rows _ _ _ _ _ _ e y g c.bind.ensures in
     let w = simple.label-ready _ _ _ _ _ _ _ _ e y g c.reserve.ensures r.1.same r.0 in
-    simple.label-did _ _ _ _ _ _ _ _ _ _ _ _ _ _ _ _ _ _ e y g c.reserve.ensures refl r.0 r.1 (simple.laid-at _ _ _ _ _ _ _ _ _ _ _ _ c.end_of.ensures c.iterm.ensures) c.close.ensures (asks.closed-length _ _ _ _ _ c.close.ensures) c.place.ensures.0 c.place.ensures.1 c.put_one.ensures
+    simple.label-did _ _ _ _ _ _ _ _ _ _ _ _ _ _ _ _ _ _ e y g c.reserve.ensures refl r.0 r.1 (simple.laid-at _ _ _ _ _ _ _ _ _ _ _ _ c.end_of.ensures c.iterm.ensures.is) c.close.ensures (asks.closed-length _ _ _ _ _ c.close.ensures) c.place.ensures.0 c.place.ensures.1 c.put_one.ensures
 
 pub neg-reserve-requires : goal.neg-reserve-requires
 neg-reserve-requires t c =
@@ -933,7 +933,7 @@ neg-place-requires t c =
     let e = c.requires.3 in
     let f = asks.stands-fits _ _ g in
     let w = simple.neg-ready _ _ _ _ _ _ _ e y g c.reserve.ensures in
-    asks.place-laid _ _ _ _ _ _ _ _ _ _ _ _ _ _ _ _ _ _ y c.reserve.ensures (omega arith) c.iterm.ensures (asks.stands-fits _ _ w.1)
+    asks.place-laid _ _ _ _ _ _ _ _ _ _ _ _ _ _ _ _ _ _ y c.reserve.ensures (omega arith) c.iterm.ensures.is (asks.stands-fits _ _ w.1)
 
 pub neg-put_one-requires : goal.neg-put_one-requires
 neg-put_one-requires t c =
@@ -942,15 +942,15 @@ neg-put_one-requires t c =
     let e = c.requires.3 in
     let f = asks.stands-fits _ _ g in
     let w = simple.neg-ready _ _ _ _ _ _ _ e y g c.reserve.ensures in
-    asks.own-laid _ _ _ _ _ _ _ _ _ _ _ _ _ _ _ _ _ _ _ y c.requires.2 c.reserve.ensures (omega arith) c.iterm.ensures (asks.stands-fits _ _ w.1) c.place.ensures.0
+    asks.own-laid _ _ _ _ _ _ _ _ _ _ _ _ _ _ _ _ _ _ _ y c.requires.2 c.reserve.ensures (omega arith) c.iterm.ensures.is (asks.stands-fits _ _ w.1) c.place.ensures.0
 
-pub neg-returns : goal.neg-returns
-neg-returns t c =
+pub neg-returns-clause-is : goal.neg-returns-clause-is
+neg-returns-clause-is t c =
     let y = c.requires.0 in
     let g = c.requires.1 in
     let e = c.requires.3 in
     let f = asks.stands-fits _ _ g in
-    simple.neg-did _ _ _ _ _ _ _ _ _ _ _ _ _ _ _ _ e y g c.reserve.ensures refl c.iterm.ensures c.place.ensures.0 c.place.ensures.1 c.put_one.ensures
+    simple.neg-did _ _ _ _ _ _ _ _ _ _ _ _ _ _ _ _ e y g c.reserve.ensures refl c.iterm.ensures.is c.place.ensures.0 c.place.ensures.1 c.put_one.ensures
 
 pub obj-end_of-z-requires : goal.obj-end_of-z-requires
 obj-end_of-z-requires t c =
@@ -978,7 +978,7 @@ pub obj-reserve-requires : goal.obj-reserve-requires
 obj-reserve-requires t c =
     let y = c.requires.0 in
     let pl = c.requires.2 in
-    omega (arith, noting.placed-low c.args.o c.args.st.now pl (omega (arith, y.offs)), c.entries_width-w.ensures.1)
+    omega (arith, noting.placed-low c.args.o c.args.self.now.st pl (omega (arith, y.offs)), c.entries_width-w.ensures.1)
 
 pub obj-overflow_add-p-2 : goal.obj-overflow_add-p-2
 obj-overflow_add-p-2 t c =
@@ -1005,15 +1005,15 @@ obj-sum_or-requires t c =
     let g = c.requires.1 in
     let pl = c.requires.2 in
     let e = c.requires.3 in
-    forms_objects.obj-summed b _ _ _ _ _ _ _ _ _ _ _ _ _ _ c.end_of-z.ensures e y g c.entries_width-w.ensures.1 c.reserve.ensures c.entries-i.ensures pl
+    forms_objects.obj-summed b _ _ _ _ _ _ _ _ _ _ _ _ _ _ c.end_of-z.ensures e y g c.entries_width-w.ensures.1 c.reserve.ensures c.entries-i.ensures.is pl
 
-pub obj-returns : goal.obj-returns
-obj-returns t c =
+pub obj-returns-clause-is : goal.obj-returns-clause-is
+obj-returns-clause-is t c =
     let b = c.args.tree.now in
     let y = c.requires.0 in
     let g = c.requires.1 in
     let e = c.requires.3 in
-    forms_objects.obj-done b _ _ _ _ _ _ _ _ _ _ _ _ _ _ c.end_of-z.ensures e y g c.entries_width-w.ensures.1 c.reserve.ensures c.entries-i.ensures c.entries_width-w.ensures.0 _ _ c.sum_or.ensures
+    forms_objects.obj-done b _ _ _ _ _ _ _ _ _ _ _ _ _ _ c.end_of-z.ensures e y g c.entries_width-w.ensures.1 c.reserve.ensures c.entries-i.ensures.is c.entries_width-w.ensures.0 _ _ c.sum_or.ensures
 
 pub obj_entry-overflow_add-q : goal.obj_entry-overflow_add-q
 obj_entry-overflow_add-q t c =
@@ -1051,7 +1051,7 @@ pub obj_entry-note-requires : goal.obj_entry-note-requires
 obj_entry-note-requires t c =
     let b = c.args.tree.now in
     let y = c.requires.0 in
-    (omega (arith, noting.note-room b _ _ _ _ _ y (omega arith), c.iterm.ensures.paid.same), noting.note-few b _ _ _ _ _ y (omega arith), omega arith)
+    (omega (arith, noting.note-room b _ _ _ _ _ y (omega arith), c.iterm.ensures.is.paid.same), noting.note-few b _ _ _ _ _ y (omega arith), omega arith)
 
 pub obj_entry-overflow_add-k : goal.obj_entry-overflow_add-k
 obj_entry-overflow_add-k t c =
@@ -1064,16 +1064,16 @@ obj_entry-iterm-requires-then-v-end_of t c =
     let y = c.requires.0 in
     let g = c.requires.1 in
     let l : c.end_of-v.result < end_of b c.args.q = omega (arith, c.end_of.ensures, c.if-v-end_of.true) in
-    let w = forms_objects.entry-value-at b _ _ _ _ _ _ _ _ _ _ _ _ _ c.end_of-v.ensures l y g refl c.iterm.ensures c.note.ensures in
+    let w = forms_objects.entry-value-at b _ _ _ _ _ _ _ _ _ _ _ _ _ c.end_of-v.ensures l y g refl c.iterm.ensures.is c.note.ensures in
     (omega (arith, c.decreases, g.2.fits, c.end_of-v.ensures, l), (w.0, w.1))
 
-pub obj_entry-returns-then-v-end_of : goal.obj_entry-returns-then-v-end_of
-obj_entry-returns-then-v-end_of t c =
+pub obj_entry-returns-then-v-end_of-clause-is : goal.obj_entry-returns-then-v-end_of-clause-is
+obj_entry-returns-then-v-end_of-clause-is t c =
     let b = c.args.tree.now in
     let y = c.requires.0 in
     let g = c.requires.1 in
     let l : c.end_of-v.result < end_of b c.args.q = omega (arith, c.end_of.ensures, c.if-v-end_of.true) in
-    forms_objects.pair-done b _ _ _ _ _ _ _ _ _ _ _ _ _ _ _ _ _ c.end_of-v.ensures l y g refl refl c.iterm.ensures c.note.ensures c.iterm-then-v-end_of.ensures
+    forms_objects.pair-done b _ _ _ _ _ _ _ _ _ _ _ _ _ _ _ _ _ c.end_of-v.ensures l y g refl refl c.iterm.ensures.is c.note.ensures c.iterm-then-v-end_of.ensures.is
 
 pub obj_entry-overflow_add-q-2 : goal.obj_entry-overflow_add-q-2
 obj_entry-overflow_add-q-2 t c =
@@ -1101,12 +1101,12 @@ obj_entry-own_var-requires t c =
     let g = c.requires.1 in
     (omega (arith, c.decreases, g.2.fits), ((c.args.q, omega arith, ready-part b _ _ c.args.q c.args.q (end_of b c.args.q) (end_of b (c.args.q + 3)) _ y (omega arith) (omega arith) (forms_objects.entry-mid b c.args.q g)), (g.0, g.2.key), c.if-tree-q.true))
 
-pub obj_entry-returns-then-tree-q : goal.obj_entry-returns-then-tree-q
-obj_entry-returns-then-tree-q t c =
+pub obj_entry-returns-then-tree-q-clause-is : goal.obj_entry-returns-then-tree-q-clause-is
+obj_entry-returns-then-tree-q-clause-is t c =
     let b = c.args.tree.now in
     let g = c.requires.1 in
     let l : end_of b c.args.q ≤ end_of b (c.args.q + 3) = omega (arith, c.end_of-v.ensures, c.end_of.ensures, c.if-v-end_of.false) in
-    forms_objects.lone-entry b _ _ _ _ _ _ _ _ l g c.own_var.ensures
+    forms_objects.lone-entry b _ _ _ _ _ _ _ _ l g c.own_var.ensures.is
 
 pub obj_entry-overflow_add-q-3 : goal.obj_entry-overflow_add-q-3
 obj_entry-overflow_add-q-3 t c =
@@ -1122,12 +1122,12 @@ obj_entry-own_key-requires t c =
     let w = forms_objects.entry_key b _ _ _ _ y g in
     (omega (arith, c.decreases, g.2.fits), (w.0, w.1, c.if-tree-q.false))
 
-pub obj_entry-returns : goal.obj_entry-returns
-obj_entry-returns t c =
+pub obj_entry-returns-clause-is : goal.obj_entry-returns-clause-is
+obj_entry-returns-clause-is t c =
     let b = c.args.tree.now in
     let g = c.requires.1 in
     let l : end_of b c.args.q ≤ end_of b (c.args.q + 3) = omega (arith, c.end_of-v.ensures, c.end_of.ensures, c.if-v-end_of.false) in
-    forms_objects.lone-entry b _ _ _ _ _ _ _ _ l g c.own_key.ensures
+    forms_objects.lone-entry b _ _ _ _ _ _ _ _ l g c.own_key.ensures.is
 
 pub open_def-overflow_add-q : goal.open_def-overflow_add-q
 open_def-overflow_add-q t c = let y = c.requires.0 in omega (arith, y.small, y.within, y.order)
@@ -1138,11 +1138,11 @@ open_def-end_of-requires t c = (open_at _ _ c.requires.1).0
 pub open_def-params-u-requires : goal.open_def-params-u-requires
 open_def-params-u-requires t c = open-params _ _ _ c.requires.1 c.end_of.ensures
 
-pub open_def-bounds-rows-1 : goal.open_def-bounds-rows-1
-open_def-bounds-rows-1 t c = omega (arith, (ready-cells _ _ _ _ _ _ c.requires.0).0)
+pub open_def-bounds-self-1 : goal.open_def-bounds-self-1
+open_def-bounds-self-1 t c = omega (arith, (ready-cells _ _ _ _ _ _ c.requires.0).0)
 
-pub open_def-bounds-rows-2 : goal.open_def-bounds-rows-2
-open_def-bounds-rows-2 t c = omega (arith, (ready-cells _ _ _ _ _ _ c.requires.0).0)
+pub open_def-bounds-self-2 : goal.open_def-bounds-self-2
+open_def-bounds-self-2 t c = omega (arith, (ready-cells _ _ _ _ _ _ c.requires.0).0)
 
 pub open_def-overflow_add-q-2 : goal.open_def-overflow_add-q-2
 open_def-overflow_add-q-2 t c = let y = c.requires.0 in omega (arith, y.small, y.within, y.order)
@@ -1180,7 +1180,7 @@ open_def-overflow_add-k-4 t c = let y = c.requires.0 in
 pub open_def-leave-requires : goal.open_def-leave-requires
 open_def-leave-requires t c = let y = c.requires.0 in
     let o = open-known _ _ _ _ _ c.requires.1 c.end_of.ensures c.params-u.ensures in
-    open-leave _ _ _ _ _ _ _ _ y o refl _ c.enter.ensures _ _ _ _ c.args.allowed _ _ c.bit.ensures c.iterm-t.ensures
+    open-leave _ _ _ _ _ _ _ _ y o refl _ c.enter.ensures _ _ _ _ c.args.allowed _ _ c.bit.ensures c.iterm-t.ensures.is
 
 pub open_def-overflow_add-q-3 : goal.open_def-overflow_add-q-3
 open_def-overflow_add-q-3 t c = let y = c.requires.0 in omega (arith, y.small, y.within, y.order)
@@ -1188,12 +1188,12 @@ open_def-overflow_add-q-3 t c = let y = c.requires.0 in omega (arith, y.small, y
 pub open_def-push-requires : goal.open_def-push-requires
 open_def-push-requires t c = let y = c.requires.0 in
     let o = open-known _ _ _ _ _ c.requires.1 c.end_of.ensures c.params-u.ensures in
-    open-push _ _ _ _ _ _ _ _ y o refl _ c.enter.ensures _ _ _ _ c.args.allowed _ _ c.bit.ensures c.iterm-t.ensures _ c.leave.ensures
+    open-push _ _ _ _ _ _ _ _ y o refl _ c.enter.ensures _ _ _ _ c.args.allowed _ _ c.bit.ensures c.iterm-t.ensures.is _ c.leave.ensures
 
-pub open_def-returns : goal.open_def-returns
-open_def-returns t c = let y = c.requires.0 in
+pub open_def-returns-clause-is : goal.open_def-returns-clause-is
+open_def-returns-clause-is t c = let y = c.requires.0 in
     let o = open-known _ _ _ _ _ c.requires.1 c.end_of.ensures c.params-u.ensures in
-    open-did _ _ _ _ _ _ _ _ y o refl _ c.enter.ensures _ _ _ _ _ _ _ c.bit.ensures c.iterm-t.ensures _ c.leave.ensures _ c.push.ensures _ c.end_of.ensures c.params-u.ensures
+    open-did _ _ _ _ _ _ _ _ y o refl _ c.enter.ensures _ _ _ _ _ _ _ c.bit.ensures c.iterm-t.ensures.is _ c.leave.ensures _ c.push.ensures _ c.end_of.ensures c.params-u.ensures
 
 pub or_empty-iterm-requires : goal.or_empty-iterm-requires
 or_empty-iterm-requires t c =
@@ -1201,11 +1201,11 @@ or_empty-iterm-requires t c =
     let g = c.requires.1 in
     (omega (arith, c.decreases), simple.some-ready _ _ _ _ _ _ y c.if-q-z.true g)
 
-pub or_empty-returns-then-q-z : goal.or_empty-returns-then-q-z
-or_empty-returns-then-q-z t c =
+pub or_empty-returns-then-q-z-clause-is : goal.or_empty-returns-then-q-z-clause-is
+or_empty-returns-then-q-z-clause-is t c =
     let y = c.requires.0 in
     let g = c.requires.1 in
-    simple.some-empty _ _ _ _ _ _ _ _ _ _ _ c.if-q-z.true g c.iterm.ensures
+    simple.some-empty _ _ _ _ _ _ _ _ _ _ _ c.if-q-z.true g c.iterm.ensures.is
 
 pub or_empty-supplied-requires : goal.or_empty-supplied-requires
 or_empty-supplied-requires t c =
@@ -1213,8 +1213,8 @@ or_empty-supplied-requires t c =
     let g = c.requires.1 in
     ((y.view, c.args.k, y.seen), y.small, omega arith, omega arith, omega (arith, y.nums), omega (arith, y.offs), omega (arith, y.errs))
 
-pub or_empty-returns : goal.or_empty-returns
-or_empty-returns t c =
+pub or_empty-returns-clause-is : goal.or_empty-returns-clause-is
+or_empty-returns-clause-is t c =
     let y = c.requires.0 in
     let g = c.requires.1 in
     simple.none-empty _ _ _ _ _ _ _ _ _ c.if-q-z.false g c.supplied.ensures.0 c.supplied.ensures.1 c.supplied.ensures.2 c.supplied.ensures.3
@@ -1226,11 +1226,11 @@ other-term-requires t c =
     let w = conditional.else-ready _ _ _ _ _ _ y c.if-q-z.true g in
     (omega (arith, c.decreases), (w.0, w.1, inr refl))
 
-pub other-returns-then-q-z : goal.other-returns-then-q-z
-other-returns-then-q-z t c =
+pub other-returns-then-q-z-clause-is : goal.other-returns-then-q-z-clause-is
+other-returns-then-q-z-clause-is t c =
     let y = c.requires.0 in
     let g = c.requires.1 in
-    conditional.else-some _ _ _ _ _ _ _ _ _ _ _ _ c.if-q-z.true g c.term.ensures
+    conditional.else-some _ _ _ _ _ _ _ _ _ _ _ _ c.if-q-z.true g c.term.ensures.is
 
 pub other-bare-requires : goal.other-bare-requires
 other-bare-requires t c =
@@ -1238,8 +1238,8 @@ other-bare-requires t c =
     let g = c.requires.1 in
     (omega arith, omega (arith, y.offs))
 
-pub other-returns : goal.other-returns
-other-returns t c =
+pub other-returns-clause-is : goal.other-returns-clause-is
+other-returns-clause-is t c =
     let y = c.requires.0 in
     let g = c.requires.1 in
     asks.else-bare _ _ _ _ _ _ _ _ _ _ _ c.if-q-z.false (omega (arith, y.offs)) g c.bare.ensures
@@ -1254,48 +1254,48 @@ pub own_key-insert-requires : goal.own_key-insert-requires
 own_key-insert-requires t c =
     let b = c.args.tree.now in
     let y = c.requires.0 in
-    let a = forms_objects.key-rooms b _ _ _ _ _ _ _ _ _ y c.iterm.ensures in
+    let a = forms_objects.key-rooms b _ _ _ _ _ _ _ _ _ y c.iterm.ensures.is in
     (omega (arith, a.0), omega (arith, a.1))
 
 pub own_key-put_bare-requires : goal.own_key-put_bare-requires
 own_key-put_bare-requires t c =
     let b = c.args.tree.now in
     let y = c.requires.0 in
-    let a = forms_objects.key-rooms b _ _ _ _ _ _ _ _ _ y c.iterm.ensures in
+    let a = forms_objects.key-rooms b _ _ _ _ _ _ _ _ _ y c.iterm.ensures.is in
     omega (arith, c.insert.ensures.0, a.1)
 
 pub own_key-insert-requires-2 : goal.own_key-insert-requires-2
 own_key-insert-requires-2 t c =
     let b = c.args.tree.now in
     let y = c.requires.0 in
-    let a = forms_objects.key-rooms-next b _ _ _ _ _ _ _ _ _ _ y c.iterm.ensures c.insert.ensures.1 in
+    let a = forms_objects.key-rooms-next b _ _ _ _ _ _ _ _ _ _ y c.iterm.ensures.is c.insert.ensures.1 in
     (omega (arith, a.0), omega (arith, a.1))
 
 pub own_key-put_own-requires : goal.own_key-put_own-requires
 own_key-put_own-requires t c =
     let b = c.args.tree.now in
     let y = c.requires.0 in
-    let a = forms_objects.key-rooms-next b _ _ _ _ _ _ _ _ _ _ y c.iterm.ensures c.insert.ensures.1 in
+    let a = forms_objects.key-rooms-next b _ _ _ _ _ _ _ _ _ _ y c.iterm.ensures.is c.insert.ensures.1 in
     omega (arith, c.insert-2.ensures.0, a.1)
 
 pub own_key-overflow_add-b : goal.own_key-overflow_add-b
 own_key-overflow_add-b t c =
     let b = c.args.tree.now in
     let y = c.requires.0 in
-    let a = forms_objects.key-rooms b _ _ _ _ _ _ _ _ _ y c.iterm.ensures in
+    let a = forms_objects.key-rooms b _ _ _ _ _ _ _ _ _ y c.iterm.ensures.is in
     omega (arith, a.0)
 
 pub own_key-note-requires : goal.own_key-note-requires
 own_key-note-requires t c =
     let b = c.args.tree.now in
     let y = c.requires.0 in
-    (omega (arith, noting.note-room b _ _ _ _ _ y (omega arith), c.iterm.ensures.paid.same), noting.note-few b _ _ _ _ _ y (omega arith), omega arith)
+    (omega (arith, noting.note-room b _ _ _ _ _ y (omega arith), c.iterm.ensures.is.paid.same), noting.note-few b _ _ _ _ _ y (omega arith), omega arith)
 
-pub own_key-returns : goal.own_key-returns
-own_key-returns t c =
+pub own_key-returns-clause-is : goal.own_key-returns-clause-is
+own_key-returns-clause-is t c =
     let b = c.args.tree.now in
     let y = c.requires.0 in
-    forms_objects.key-is b _ _ _ _ _ _ _ _ _ _ _ _ _ _ _ _ _ _ c.requires.2 y refl c.iterm.ensures refl c.insert.ensures.0 c.insert.ensures.1 c.put_bare.ensures c.insert-2.ensures.0 c.insert-2.ensures.1 c.put_own.ensures c.note.ensures
+    forms_objects.key-is b _ _ _ _ _ _ _ _ _ _ _ _ _ _ _ _ _ _ c.requires.2 y refl c.iterm.ensures.is refl c.insert.ensures.0 c.insert.ensures.1 c.put_bare.ensures c.insert-2.ensures.0 c.insert-2.ensures.1 c.put_own.ensures c.note.ensures
 
 pub own_var-end_of-z-requires : goal.own_var-end_of-z-requires
 own_var-end_of-z-requires t c =
@@ -1393,10 +1393,10 @@ own_var-note-requires t c =
     let b = c.args.tree.now in
     let l = c.requires.0.1 in
     let y = c.requires.0.2 in
-    (omega (arith, noting.note-room b _ _ _ _ _ y (omega (arith, l)), c.iterm.ensures.paid.same), noting.note-few b _ _ _ _ _ y (omega (arith, l)), omega arith)
+    (omega (arith, noting.note-room b _ _ _ _ _ y (omega (arith, l)), c.iterm.ensures.is.paid.same), noting.note-few b _ _ _ _ _ y (omega (arith, l)), omega arith)
 
-pub own_var-returns : goal.own_var-returns
-own_var-returns t c =
+pub own_var-returns-clause-is : goal.own_var-returns-clause-is
+own_var-returns-clause-is t c =
     let b = c.args.tree.now in
     let l = c.requires.0.1 in
     let y = c.requires.0.2 in
@@ -1405,23 +1405,23 @@ own_var-returns t c =
     let h = forms_objects.var-long b c.args.p e g in
     let n : c.args.p + 4 ≤ c.end_of-z.result = omega (arith, c.end_of-z.ensures, h.0) in
     let f : c.end_of-z.result ≤ length b = omega (arith, c.end_of-z.ensures, h.1) in
-    forms_objects.var-is b _ _ _ _ _ _ _ _ _ _ _ _ _ _ _ _ _ _ l e y g refl c.end_of-z.ensures refl c.insert.ensures.0 c.insert.ensures.1 (noting.name-part b c.args.p c.end_of-z.result c.end_of-z.ensures n f) c.put_text.ensures c.iterm.ensures c.note.ensures
+    forms_objects.var-is b _ _ _ _ _ _ _ _ _ _ _ _ _ _ _ _ _ _ l e y g refl c.end_of-z.ensures refl c.insert.ensures.0 c.insert.ensures.1 (noting.name-part b c.args.p c.end_of-z.result c.end_of-z.ensures n f) c.put_text.ensures c.iterm.ensures.is c.note.ensures
 
 pub pairs-loop-a-init : goal.pairs-loop-a-init
 pairs-loop-a-init t c =
-    pairing.pairs_start _ _ _ _ _ _ _ _ c.requires.1
+    (record { rows = refl; out = refl }, pairing.pairs_start _ _ _ _ _ _ _ _ c.requires.1)
 
 pub pairs-is_tag-requires : goal.pairs-is_tag-requires
 pairs-is_tag-requires t c =
     let y = c.requires.0 in
-    let m = c.loop-a.invariant in
+    let m = c.loop-a.invariant.1 in
     let v = pairing.pairs-ready _ _ _ _ _ _ _ _ _ _ _ _ _ _ y m in
     v.within
 
 pub pairs-overflow_add-p : goal.pairs-overflow_add-p
 pairs-overflow_add-p t c =
     let y = c.requires.0 in
-    let m = c.loop-a.invariant in
+    let m = c.loop-a.invariant.1 in
     let v = pairing.pairs-ready _ _ _ _ _ _ _ _ _ _ _ _ _ _ y m in
     let h = tag-yes c.args.tree.now c.loop-a.p c.args.z 0xB8 (sym c.is_tag.ensures ∙ c.loop-a-test.true) in
     let a = pairing.pair-test _ _ _ _ _ _ v h.0 h.1 m.some in
@@ -1430,7 +1430,7 @@ pairs-overflow_add-p t c =
 pub pairs-iterm-t-requires : goal.pairs-iterm-t-requires
 pairs-iterm-t-requires t c =
     let y = c.requires.0 in
-    let m = c.loop-a.invariant in
+    let m = c.loop-a.invariant.1 in
     let v = pairing.pairs-ready _ _ _ _ _ _ _ _ _ _ _ _ _ _ y m in
     let h = tag-yes c.args.tree.now c.loop-a.p c.args.z 0xB8 (sym c.is_tag.ensures ∙ c.loop-a-test.true) in
     let a = pairing.pair-test _ _ _ _ _ _ v h.0 h.1 m.some in
@@ -1439,16 +1439,16 @@ pairs-iterm-t-requires t c =
 pub pairs-note-requires : goal.pairs-note-requires
 pairs-note-requires t c =
     let y = c.requires.0 in
-    let m = c.loop-a.invariant in
+    let m = c.loop-a.invariant.1 in
     let v = pairing.pairs-ready _ _ _ _ _ _ _ _ _ _ _ _ _ _ y m in
     let h = tag-yes c.args.tree.now c.loop-a.p c.args.z 0xB8 (sym c.is_tag.ensures ∙ c.loop-a-test.true) in
     let a = pairing.pair-test _ _ _ _ _ _ v h.0 h.1 m.some in
-    asks.note-laid _ _ _ _ _ _ _ _ _ _ _ _ _ _ v h.0 (omega (arith, a.2)) c.iterm-t.ensures refl
+    asks.note-laid _ _ _ _ _ _ _ _ _ _ _ _ _ _ v h.0 (omega (arith, a.2)) c.iterm-t.ensures.is refl
 
 pub pairs-overflow_add-p-in-loop-a : goal.pairs-overflow_add-p-in-loop-a
 pairs-overflow_add-p-in-loop-a t c =
     let y = c.requires.0 in
-    let m = c.loop-a.invariant in
+    let m = c.loop-a.invariant.1 in
     let v = pairing.pairs-ready _ _ _ _ _ _ _ _ _ _ _ _ _ _ y m in
     let h = tag-yes c.args.tree.now c.loop-a.p c.args.z 0xB8 (sym c.is_tag.ensures ∙ c.loop-a-test.true) in
     let a = pairing.pair-test _ _ _ _ _ _ v h.0 h.1 m.some in
@@ -1457,7 +1457,7 @@ pairs-overflow_add-p-in-loop-a t c =
 pub pairs-end_of-requires : goal.pairs-end_of-requires
 pairs-end_of-requires t c =
     let y = c.requires.0 in
-    let m = c.loop-a.invariant in
+    let m = c.loop-a.invariant.1 in
     let v = pairing.pairs-ready _ _ _ _ _ _ _ _ _ _ _ _ _ _ y m in
     let h = tag-yes c.args.tree.now c.loop-a.p c.args.z 0xB8 (sym c.is_tag.ensures ∙ c.loop-a-test.true) in
     let a = pairing.pair-test _ _ _ _ _ _ v h.0 h.1 m.some in
@@ -1466,7 +1466,7 @@ pairs-end_of-requires t c =
 pub pairs-overflow_add-i : goal.pairs-overflow_add-i
 pairs-overflow_add-i t c =
     let y = c.requires.0 in
-    let m = c.loop-a.invariant in
+    let m = c.loop-a.invariant.1 in
     let v = pairing.pairs-ready _ _ _ _ _ _ _ _ _ _ _ _ _ _ y m in
     let h = tag-yes c.args.tree.now c.loop-a.p c.args.z 0xB8 (sym c.is_tag.ensures ∙ c.loop-a-test.true) in
     let a = pairing.pair-test _ _ _ _ _ _ v h.0 h.1 m.some in
@@ -1475,18 +1475,18 @@ pairs-overflow_add-i t c =
 pub pairs-iterm-t-requires-in-loop-a : goal.pairs-iterm-t-requires-in-loop-a
 pairs-iterm-t-requires-in-loop-a t c =
     let y = c.requires.0 in
-    let m = c.loop-a.invariant in
+    let m = c.loop-a.invariant.1 in
     let v = pairing.pairs-ready _ _ _ _ _ _ _ _ _ _ _ _ _ _ y m in
     let h = tag-yes c.args.tree.now c.loop-a.p c.args.z 0xB8 (sym c.is_tag.ensures ∙ c.loop-a-test.true) in
     let a = pairing.pair-test _ _ _ _ _ _ v h.0 h.1 m.some in
-    let n = asks.noting _ _ _ _ _ _ _ _ _ _ v h.0 (omega (arith, a.2)) c.iterm-t.ensures.paid.same refl c.note.ensures in
-    let w = pairing.pair_then _ _ _ _ _ _ _ _ _ _ _ _ _ _ v h.0 h.1 m.some c.iterm-t.ensures n in
+    let n = asks.noting _ _ _ _ _ _ _ _ _ _ v h.0 (omega (arith, a.2)) c.iterm-t.ensures.is.paid.same refl c.note.ensures in
+    let w = pairing.pair_then _ _ _ _ _ _ _ _ _ _ _ _ _ _ v h.0 h.1 m.some c.iterm-t.ensures.is n in
     (omega (arith, c.decreases, m.rows, m.low, a.2, a.3, c.end_of.ensures), simple.at_place _ _ _ _ _ c.end_of.ensures w)
 
 pub pairs-end_of-p-requires : goal.pairs-end_of-p-requires
 pairs-end_of-p-requires t c =
     let y = c.requires.0 in
-    let m = c.loop-a.invariant in
+    let m = c.loop-a.invariant.1 in
     let v = pairing.pairs-ready _ _ _ _ _ _ _ _ _ _ _ _ _ _ y m in
     let h = tag-yes c.args.tree.now c.loop-a.p c.args.z 0xB8 (sym c.is_tag.ensures ∙ c.loop-a-test.true) in
     let a = pairing.pair-test _ _ _ _ _ _ v h.0 h.1 m.some in
@@ -1495,7 +1495,7 @@ pairs-end_of-p-requires t c =
 pub pairs-overflow_add-i-in-loop-a : goal.pairs-overflow_add-i-in-loop-a
 pairs-overflow_add-i-in-loop-a t c =
     let y = c.requires.0 in
-    let m = c.loop-a.invariant in
+    let m = c.loop-a.invariant.1 in
     let v = pairing.pairs-ready _ _ _ _ _ _ _ _ _ _ _ _ _ _ y m in
     let h = tag-yes c.args.tree.now c.loop-a.p c.args.z 0xB8 (sym c.is_tag.ensures ∙ c.loop-a-test.true) in
     let a = pairing.pair-test _ _ _ _ _ _ v h.0 h.1 m.some in
@@ -1504,7 +1504,7 @@ pairs-overflow_add-i-in-loop-a t c =
 pub pairs-loop-a-smaller : goal.pairs-loop-a-smaller
 pairs-loop-a-smaller t c =
     let y = c.requires.0 in
-    let m = c.loop-a.invariant in
+    let m = c.loop-a.invariant.1 in
     let v = pairing.pairs-ready _ _ _ _ _ _ _ _ _ _ _ _ _ _ y m in
     let h = tag-yes c.args.tree.now c.loop-a.p c.args.z 0xB8 (sym c.is_tag.ensures ∙ c.loop-a-test.true) in
     let a = pairing.pair-test _ _ _ _ _ _ v h.0 h.1 m.some in
@@ -1513,17 +1513,17 @@ pairs-loop-a-smaller t c =
 pub pairs-loop-a-preserved : goal.pairs-loop-a-preserved
 pairs-loop-a-preserved t c =
     let y = c.requires.0 in
-    let m = c.loop-a.invariant in
+    let m = c.loop-a.invariant.1 in
     let v = pairing.pairs-ready _ _ _ _ _ _ _ _ _ _ _ _ _ _ y m in
     let h = tag-yes c.args.tree.now c.loop-a.p c.args.z 0xB8 (sym c.is_tag.ensures ∙ c.loop-a-test.true) in
     let a = pairing.pair-test _ _ _ _ _ _ v h.0 h.1 m.some in
-    let n = asks.noting _ _ _ _ _ _ _ _ _ _ v h.0 (omega (arith, a.2)) c.iterm-t.ensures.paid.same refl c.note.ensures in
-    pairing.at_next _ _ _ _ _ _ _ _ _ _ _ _ _ _ _ c.end_of-p.ensures (pairing.pair-more _ _ _ _ _ _ _ _ _ _ _ _ _ _ _ _ _ _ _ _ _ _ _ _ _ y h.0 h.1 m refl c.iterm-t.ensures refl n (simple.laid-at _ _ _ _ _ _ _ _ _ _ _ _ c.end_of.ensures c.iterm-t-in-loop-a.ensures))
+    let n = asks.noting _ _ _ _ _ _ _ _ _ _ v h.0 (omega (arith, a.2)) c.iterm-t.ensures.is.paid.same refl c.note.ensures in
+    (record { rows = c.iterm-t-in-loop-a.ensures.same.rows ∙ c.iterm-t.ensures.same.rows ∙ c.loop-a.invariant.0.rows; out = c.iterm-t-in-loop-a.ensures.same.out ∙ c.iterm-t.ensures.same.out ∙ c.loop-a.invariant.0.out }, pairing.at_next _ _ _ _ _ _ _ _ _ _ _ _ _ _ _ c.end_of-p.ensures (pairing.pair-more _ _ _ _ _ _ _ _ _ _ _ _ _ _ _ _ _ _ _ _ _ _ _ _ _ y h.0 h.1 m refl c.iterm-t.ensures.is refl n (simple.laid-at _ _ _ _ _ _ _ _ _ _ _ _ c.end_of.ensures c.iterm-t-in-loop-a.ensures.is)))
 
-pub pairs-returns : goal.pairs-returns
-pairs-returns t c =
+pub pairs-returns-clause-is : goal.pairs-returns-clause-is
+pairs-returns-clause-is t c =
     let y = c.requires.0 in
-    let m = c.loop-a.invariant in
+    let m = c.loop-a.invariant.1 in
     pairing.pairs-done _ _ _ _ _ _ _ _ _ _ _ _ _ _ _ (tag-no c.args.tree.now c.loop-a.p c.args.z 0xB8 (sym c.is_tag.ensures ∙ c.loop-a-test.false)) m refl refl refl
 
 pub part-bounds-tree-q : goal.part-bounds-tree-q
@@ -1554,14 +1554,14 @@ pub part-note-requires : goal.part-note-requires
 part-note-requires t c =
     let b = c.args.tree.now in
     let y = c.requires.0 in
-    (omega (arith, noting.note-room b _ _ _ _ _ y (omega arith), c.iterm.ensures.paid.same), noting.note-few b _ _ _ _ _ y (omega arith), omega arith)
+    (omega (arith, noting.note-room b _ _ _ _ _ y (omega arith), c.iterm.ensures.is.paid.same), noting.note-few b _ _ _ _ _ y (omega arith), omega arith)
 
-pub part-returns-then-tree-q : goal.part-returns-then-tree-q
-part-returns-then-tree-q t c =
+pub part-returns-then-tree-q-clause-is : goal.part-returns-then-tree-q-clause-is
+part-returns-then-tree-q-clause-is t c =
     let b = c.args.tree.now in
     let y = c.requires.0 in
     let g = c.requires.1 in
-    forms_paths.index_is b _ _ _ _ _ _ _ _ _ _ _ c.if-tree-q.true y g refl c.iterm.ensures c.note.ensures
+    forms_paths.index_is b _ _ _ _ _ _ _ _ _ _ _ c.if-tree-q.true y g refl c.iterm.ensures.is c.note.ensures
 
 pub part-end_of-z-requires : goal.part-end_of-z-requires
 part-end_of-z-requires t c =
@@ -1591,7 +1591,7 @@ pub part-note-requires-2 : goal.part-note-requires-2
 part-note-requires-2 t c =
     let b = c.args.tree.now in
     let y = c.requires.0 in
-    (omega (arith, noting.note-room b _ _ _ _ _ y (omega arith), c.bound.ensures.paid.same), noting.note-few b _ _ _ _ _ y (omega arith), omega arith)
+    (omega (arith, noting.note-room b _ _ _ _ _ y (omega arith), c.bound.ensures.is.paid.same), noting.note-few b _ _ _ _ _ y (omega arith), omega arith)
 
 pub part-overflow_add-q-3 : goal.part-overflow_add-q-3
 part-overflow_add-q-3 t c =
@@ -1618,59 +1618,59 @@ part-bound-requires-2 t c =
     let y = c.requires.0 in
     let g = c.requires.1 in
     let fits = forms_paths.part-fits b c.args.q g in
-    let w = forms_paths.range-upto-at b _ _ _ _ _ _ _ _ _ _ _ _ _ c.end_of-z.ensures c.past.ensures c.if-tree-q.false y g refl c.bound.ensures c.note-2.ensures in
+    let w = forms_paths.range-upto-at b _ _ _ _ _ _ _ _ _ _ _ _ _ c.end_of-z.ensures c.past.ensures c.if-tree-q.false y g refl c.bound.ensures.is c.note-2.ensures in
     (omega (arith, c.decreases, fits, w.2), (w.0, w.1))
 
-pub part-returns : goal.part-returns
-part-returns t c =
+pub part-returns-clause-is : goal.part-returns-clause-is
+part-returns-clause-is t c =
     let b = c.args.tree.now in
     let y = c.requires.0 in
     let g = c.requires.1 in
-    forms_paths.range-done-at b _ _ _ _ _ _ _ _ _ _ _ _ _ _ _ _ c.end_of-z.ensures c.past.ensures c.if-tree-q.false y g refl refl c.bound.ensures c.note-2.ensures c.bound-2.ensures
+    forms_paths.range-done-at b _ _ _ _ _ _ _ _ _ _ _ _ _ _ _ _ c.end_of-z.ensures c.past.ensures c.if-tree-q.false y g refl refl c.bound.ensures.is c.note-2.ensures c.bound-2.ensures.is
 
 pub parts-loop-p-init : goal.parts-loop-p-init
 parts-loop-p-init t c =
     let b = c.args.tree.now in
     let y = c.requires.0 in
     let g = c.requires.1 in
-    forms_paths.parts-start b _ _ _ _ _ _ y g
+    (record { rows = refl; out = refl }, forms_paths.parts-start b _ _ _ _ _ _ y g)
 
 pub parts-part-requires : goal.parts-part-requires
 parts-part-requires t c =
     let b = c.args.tree.now in
-    let v = c.loop-p.invariant in
+    let v = c.loop-p.invariant.1 in
     let w = forms_paths.parts_next b _ _ _ _ _ _ _ _ _ _ _ v c.loop-p-test.true in
     (omega (arith, c.decreases, v.low, w.2), (w.0, w.1))
 
 pub parts-end_of-p-requires : goal.parts-end_of-p-requires
 parts-end_of-p-requires t c =
     let b = c.args.tree.now in
-    let v = c.loop-p.invariant in
+    let v = c.loop-p.invariant.1 in
     let w = forms_paths.parts_next b _ _ _ _ _ _ _ _ _ _ _ v c.loop-p-test.true in
     w.2
 
 pub parts-overflow_add-i : goal.parts-overflow_add-i
 parts-overflow_add-i t c =
-    let v = c.loop-p.invariant in
+    let v = c.loop-p.invariant.1 in
     omega (arith, v.ready.seen.within, v.ready.seen.small)
 
 pub parts-loop-p-smaller : goal.parts-loop-p-smaller
 parts-loop-p-smaller t c =
     let b = c.args.tree.now in
-    let v = c.loop-p.invariant in
+    let v = c.loop-p.invariant.1 in
     let w = forms_paths.parts_next b _ _ _ _ _ _ _ _ _ _ _ v c.loop-p-test.true in
     omega (arith, c.end_of-p.ensures, w.2)
 
 pub parts-loop-p-preserved : goal.parts-loop-p-preserved
 parts-loop-p-preserved t c =
     let b = c.args.tree.now in
-    let v = c.loop-p.invariant in
-    forms_paths.parts_again b _ _ _ _ _ _ _ _ _ _ _ _ _ _ _ v c.loop-p-test.true c.part.ensures c.end_of-p.ensures
+    let v = c.loop-p.invariant.1 in
+    (record { rows = c.part.ensures.same.rows ∙ c.loop-p.invariant.0.rows; out = c.part.ensures.same.out ∙ c.loop-p.invariant.0.out }, forms_paths.parts_again b _ _ _ _ _ _ _ _ _ _ _ _ _ _ _ v c.loop-p-test.true c.part.ensures.is c.end_of-p.ensures)
 
-pub parts-returns : goal.parts-returns
-parts-returns t c =
+pub parts-returns-clause-is : goal.parts-returns-clause-is
+parts-returns-clause-is t c =
     let b = c.args.tree.now in
-    let v = c.loop-p.invariant in
+    let v = c.loop-p.invariant.1 in
     forms_paths.parts-done b _ _ _ _ _ _ _ _ _ _ _ v c.loop-p-test.false
 
 pub path-end_of-z-requires : goal.path-end_of-z-requires
@@ -1719,7 +1719,7 @@ path-reserve-requires t c =
     let pl = c.requires.2 in
     let e = c.requires.3 in
     let h = forms_paths.path-ends b c.args.p _ _ c.end_of-q.ensures c.end_of-z.ensures e g in
-    omega (arith, noting.placed-low c.args.o c.args.st.now pl (omega (arith, y.offs)), c.parts_width-w.ensures.1, h.3, y.small)
+    omega (arith, noting.placed-low c.args.o c.args.self.now.st pl (omega (arith, y.offs)), c.parts_width-w.ensures.1, h.3, y.small)
 
 pub path-overflow_add-p-2 : goal.path-overflow_add-p-2
 path-overflow_add-p-2 t c =
@@ -1749,7 +1749,7 @@ path-parts-i-requires t c =
     let e = c.requires.3 in
     let h = forms_paths.path-ends b c.args.p _ _ c.end_of-q.ensures c.end_of-z.ensures e g in
     let few : 7 + c.parts_width-w.result ≤ 2097152 = omega (arith, c.parts_width-w.ensures.1, h.3, y.small) in
-    let w = forms_paths.path-rest-at b _ _ _ _ _ _ _ _ _ _ _ _ _ _ c.end_of-q.ensures c.end_of-z.ensures e y g few c.reserve.ensures c.iterm.ensures in
+    let w = forms_paths.path-rest-at b _ _ _ _ _ _ _ _ _ _ _ _ _ _ c.end_of-q.ensures c.end_of-z.ensures e y g few c.reserve.ensures c.iterm.ensures.is in
     (omega (arith, c.decreases, h.1, h.2, h.3), (w.0, w.1))
 
 pub path-place-requires : goal.path-place-requires
@@ -1758,7 +1758,7 @@ path-place-requires t c =
     let y = c.requires.0 in
     let g = c.requires.1 in
     let e = c.requires.3 in
-    forms_paths.path-rooms b _ _ _ _ _ _ _ _ _ _ _ _ _ _ _ _ _ _ c.end_of-q.ensures c.end_of-z.ensures e y g c.parts_width-w.ensures.1 c.reserve.ensures c.iterm.ensures c.parts-i.ensures
+    forms_paths.path-rooms b _ _ _ _ _ _ _ _ _ _ _ _ _ _ _ _ _ _ c.end_of-q.ensures c.end_of-z.ensures e y g c.parts_width-w.ensures.1 c.reserve.ensures c.iterm.ensures.is c.parts-i.ensures.is
 
 pub path-put_path-requires : goal.path-put_path-requires
 path-put_path-requires t c =
@@ -1769,15 +1769,15 @@ path-put_path-requires t c =
     let e = c.requires.3 in
     let h = forms_paths.path-ends b c.args.p _ _ c.end_of-q.ensures c.end_of-z.ensures e g in
     let few : 7 + c.parts_width-w.result ≤ 2097152 = omega (arith, c.parts_width-w.ensures.1, h.3, y.small) in
-    forms_paths.path-put-at b _ _ _ _ _ _ _ _ _ _ _ _ _ _ _ _ _ _ _ c.end_of-q.ensures c.end_of-z.ensures e y g pl c.parts_width-w.ensures.0 few c.reserve.ensures c.iterm.ensures c.parts-i.ensures c.place.ensures.0
+    forms_paths.path-put-at b _ _ _ _ _ _ _ _ _ _ _ _ _ _ _ _ _ _ _ c.end_of-q.ensures c.end_of-z.ensures e y g pl c.parts_width-w.ensures.0 few c.reserve.ensures c.iterm.ensures.is c.parts-i.ensures.is c.place.ensures.0
 
-pub path-returns : goal.path-returns
-path-returns t c =
+pub path-returns-clause-is : goal.path-returns-clause-is
+path-returns-clause-is t c =
     let b = c.args.tree.now in
     let y = c.requires.0 in
     let g = c.requires.1 in
     let e = c.requires.3 in
-    forms_paths.path-done b _ _ _ _ _ _ _ _ _ _ _ _ _ _ _ _ _ _ _ _ _ _ c.end_of-q.ensures c.end_of-z.ensures e y g c.parts_width-w.ensures.0 c.reserve.ensures refl c.iterm.ensures c.parts-i.ensures c.place.ensures.0 c.place.ensures.1 c.put_path.ensures
+    forms_paths.path-done b _ _ _ _ _ _ _ _ _ _ _ _ _ _ _ _ _ _ _ _ _ _ c.end_of-q.ensures c.end_of-z.ensures e y g c.parts_width-w.ensures.0 c.reserve.ensures refl c.iterm.ensures.is c.parts-i.ensures.is c.place.ensures.0 c.place.ensures.1 c.put_path.ensures
 
 pub pattern-bounds-tree-q : goal.pattern-bounds-tree-q
 pattern-bounds-tree-q t c =
@@ -1787,27 +1787,27 @@ pattern-bounds-tree-q t c =
 pub pattern-note-requires : goal.pattern-note-requires
 pattern-note-requires t c =
     let y = c.requires.0 in
-    (pats.pattern-room c.args.tree.now c.args.rows.now c.args.k c.args.q c.requires.2.0 c.requires.2.1 c.requires.1, c.requires.3, omega arith)
+    (pats.pattern-room c.args.tree.now c.args.self.now.rows.now c.args.k c.args.q c.requires.2.0 c.requires.2.1 c.requires.1, c.requires.3, omega arith)
 
 pub pattern-overflow_add-result : goal.pattern-overflow_add-result
 pattern-overflow_add-result t c =
     let y = c.requires.0 in
-    omega (arith, pats.pattern-room c.args.tree.now c.args.rows.now c.args.k c.args.q c.requires.2.0 c.requires.2.1 c.requires.1, y.seen.small)
+    omega (arith, pats.pattern-room c.args.tree.now c.args.self.now.rows.now c.args.k c.args.q c.requires.2.0 c.requires.2.1 c.requires.1, y.seen.small)
 
-pub pattern-returns-then-tag : goal.pattern-returns-then-tag
-pattern-returns-then-tag t c =
+pub pattern-returns-then-tag-clause-is : goal.pattern-returns-then-tag-clause-is
+pattern-returns-then-tag-clause-is t c =
     let y = c.requires.0 in
     pats.pattern-var _ _ _ _ _ _ _ _ c.if-tag.true (omega (arith, y.within)) (asks_b.pattern-note _ _ _ _ _ _ _ _ c.requires.2.1 c.requires.1 c.requires.3 c.note.ensures)
 
 pub pattern-note-requires-2 : goal.pattern-note-requires-2
 pattern-note-requires-2 t c =
     let y = c.requires.0 in
-    (pats.pattern-room c.args.tree.now c.args.rows.now c.args.k c.args.q c.requires.2.0 c.requires.2.1 c.requires.1, c.requires.3, omega arith)
+    (pats.pattern-room c.args.tree.now c.args.self.now.rows.now c.args.k c.args.q c.requires.2.0 c.requires.2.1 c.requires.1, c.requires.3, omega arith)
 
 pub pattern-overflow_add-k : goal.pattern-overflow_add-k
 pattern-overflow_add-k t c =
     let y = c.requires.0 in
-    omega (arith, pats.pattern-room c.args.tree.now c.args.rows.now c.args.k c.args.q c.requires.2.0 c.requires.2.1 c.requires.1, y.seen.small)
+    omega (arith, pats.pattern-room c.args.tree.now c.args.self.now.rows.now c.args.k c.args.q c.requires.2.0 c.requires.2.1 c.requires.1, y.seen.small)
 
 pub pattern-items-requires : goal.pattern-items-requires
 pattern-items-requires t c =
@@ -1815,15 +1815,15 @@ pattern-items-requires t c =
     let i = pats.pattern-items _ _ c.if-tag-2.true _ c.requires.2.1 in
     (omega (arith, c.decreases), (pats.pattern-within _ _ _ _ _ _ _ y c.requires.1 _ c.requires.2.1 (asks_b.pattern-note _ _ _ _ _ _ _ _ c.requires.2.1 c.requires.1 c.requires.3 c.note-2.ensures), i.0, i.1))
 
-pub pattern-returns-then-tag-2 : goal.pattern-returns-then-tag-2
-pattern-returns-then-tag-2 t c =
+pub pattern-returns-then-tag-2-clause-is : goal.pattern-returns-then-tag-2-clause-is
+pattern-returns-then-tag-2-clause-is t c =
     let y = c.requires.0 in
-    pats.pattern-array _ _ _ _ _ _ _ _ _ _ _ _ (asks_b.pattern-note _ _ _ _ _ _ _ _ c.requires.2.1 c.requires.1 c.requires.3 c.note-2.ensures) c.if-tag-2.true c.items.ensures
+    pats.pattern-array _ _ _ _ _ _ _ _ _ _ _ _ (asks_b.pattern-note _ _ _ _ _ _ _ _ c.requires.2.1 c.requires.1 c.requires.3 c.note-2.ensures) c.if-tag-2.true c.items.ensures.is
 
 pub pattern-overflow_add-k-2 : goal.pattern-overflow_add-k-2
 pattern-overflow_add-k-2 t c =
     let y = c.requires.0 in
-    omega (arith, pats.pattern-room c.args.tree.now c.args.rows.now c.args.k c.args.q c.requires.2.0 c.requires.2.1 c.requires.1, y.seen.small)
+    omega (arith, pats.pattern-room c.args.tree.now c.args.self.now.rows.now c.args.k c.args.q c.requires.2.0 c.requires.2.1 c.requires.1, y.seen.small)
 
 pub pattern-keyed-requires : goal.pattern-keyed-requires
 pattern-keyed-requires t c =
@@ -1831,10 +1831,10 @@ pattern-keyed-requires t c =
     let i = pats.pattern-keyed _ _ c.if-tag.false c.if-tag-2.false _ c.requires.2.1 in
     (omega (arith, c.decreases), (pats.pattern-within _ _ _ _ _ _ _ y c.requires.1 _ c.requires.2.1 (asks_b.pattern-note _ _ _ _ _ _ _ _ c.requires.2.1 c.requires.1 c.requires.3 c.note-2.ensures), i.0, i.1))
 
-pub pattern-returns : goal.pattern-returns
-pattern-returns t c =
+pub pattern-returns-clause-is : goal.pattern-returns-clause-is
+pattern-returns-clause-is t c =
     let y = c.requires.0 in
-    pats.pattern-object _ _ _ _ _ _ _ _ _ _ _ _ (asks_b.pattern-note _ _ _ _ _ _ _ _ c.requires.2.1 c.requires.1 c.requires.3 c.note-2.ensures) c.if-tag.false c.if-tag-2.false c.keyed.ensures
+    pats.pattern-object _ _ _ _ _ _ _ _ _ _ _ _ (asks_b.pattern-note _ _ _ _ _ _ _ _ c.requires.2.1 c.requires.1 c.requires.3 c.note-2.ensures) c.if-tag.false c.if-tag-2.false c.keyed.ensures.is
 
 pub pipe-reserve-requires : goal.pipe-reserve-requires
 pipe-reserve-requires t c =
@@ -1861,22 +1861,22 @@ pub pipe-iterm-t-requires : goal.pipe-iterm-t-requires
 pipe-iterm-t-requires t c =
     let y = c.requires.0 in
     let a = shapes.operator-at _ _ c.requires.3 _ c.requires.1.1 in
-    (omega (arith, c.decreases, c.requires.4, a.1, y.within), ops.pipe-right _ _ _ _ _ _ _ _ c.requires.3 c.requires.4 c.requires.5 c.requires.6 y c.requires.1 c.reserve.ensures _ _ _ _ _ _ c.iterm.ensures)
+    (omega (arith, c.decreases, c.requires.4, a.1, y.within), ops.pipe-right _ _ _ _ _ _ _ _ c.requires.3 c.requires.4 c.requires.5 c.requires.6 y c.requires.1 c.reserve.ensures _ _ _ _ _ _ c.iterm.ensures.is)
 
 pub pipe-place-requires : goal.pipe-place-requires
 pipe-place-requires t c =
     let y = c.requires.0 in
-    omega (arith, (asks_b.pipe-put _ _ _ _ _ _ _ _ c.requires.3 c.requires.4 c.requires.5 c.requires.6 y c.requires.1 c.reserve.ensures _ _ 0 _ _ _ _ _ _ _ _ _ c.requires.2 c.iterm.ensures c.iterm-t.ensures).0)
+    omega (arith, (asks_b.pipe-put _ _ _ _ _ _ _ _ c.requires.3 c.requires.4 c.requires.5 c.requires.6 y c.requires.1 c.reserve.ensures _ _ 0 _ _ _ _ _ _ _ _ _ c.requires.2 c.iterm.ensures.is c.iterm-t.ensures.is).0)
 
 pub pipe-put_mid-requires : goal.pipe-put_mid-requires
 pipe-put_mid-requires t c =
     let y = c.requires.0 in
-    omega (arith, (asks_b.pipe-put _ _ _ _ _ _ _ _ c.requires.3 c.requires.4 c.requires.5 c.requires.6 y c.requires.1 c.reserve.ensures _ _ _ _ _ _ _ _ _ _ _ _ c.requires.2 c.iterm.ensures c.iterm-t.ensures).1 c.place.ensures.0)
+    omega (arith, (asks_b.pipe-put _ _ _ _ _ _ _ _ c.requires.3 c.requires.4 c.requires.5 c.requires.6 y c.requires.1 c.reserve.ensures _ _ _ _ _ _ _ _ _ _ _ _ c.requires.2 c.iterm.ensures.is c.iterm-t.ensures.is).1 c.place.ensures.0)
 
-pub pipe-returns : goal.pipe-returns
-pipe-returns t c =
+pub pipe-returns-clause-is : goal.pipe-returns-clause-is
+pipe-returns-clause-is t c =
     let y = c.requires.0 in
-    ops.pipe-did _ _ _ _ _ _ _ _ c.requires.3 c.requires.4 c.requires.5 c.requires.6 y c.requires.1 c.reserve.ensures _ _ _ _ _ _ _ _ _ _ _ _ _ _ _ refl c.iterm.ensures refl c.iterm-t.ensures c.place.ensures.0 c.place.ensures.1 c.put_mid.ensures
+    ops.pipe-did _ _ _ _ _ _ _ _ c.requires.3 c.requires.4 c.requires.5 c.requires.6 y c.requires.1 c.reserve.ensures _ _ _ _ _ _ _ _ _ _ _ _ _ _ _ refl c.iterm.ensures.is refl c.iterm-t.ensures.is c.place.ensures.0 c.place.ensures.1 c.put_mid.ensures
 
 pub piped-overflow_add-q : goal.piped-overflow_add-q
 piped-overflow_add-q t c =
@@ -1916,7 +1916,7 @@ pub piped-under-t-requires : goal.piped-under-t-requires
 piped-under-t-requires t c =
     let y = c.requires.0 in
     let h = asks_b.piped-here _ _ _ c.requires.3 c.requires.4 c.requires.5 c.requires.6 c.requires.1 in
-    (omega (arith, c.decreases, c.requires.4, h.end, h.last, y.within), pip.piped-under _ _ _ _ _ _ _ _ _ _ c.requires.3 c.requires.4 c.requires.5 c.requires.6 y c.requires.1 c.pattern_width-w.ensures.0 c.pattern_width-w.ensures.1 refl c.reserve.ensures _ _ _ _ _ _ c.iterm.ensures)
+    (omega (arith, c.decreases, c.requires.4, h.end, h.last, y.within), pip.piped-under _ _ _ _ _ _ _ _ _ _ c.requires.3 c.requires.4 c.requires.5 c.requires.6 y c.requires.1 c.pattern_width-w.ensures.0 c.pattern_width-w.ensures.1 refl c.reserve.ensures _ _ _ _ _ _ c.iterm.ensures.is)
 
 pub piped-overflow_add-q-2 : goal.piped-overflow_add-q-2
 piped-overflow_add-q-2 t c =
@@ -1928,7 +1928,7 @@ pub piped-pattern-requires : goal.piped-pattern-requires
 piped-pattern-requires t c =
     let y = c.requires.0 in
     let h = asks_b.piped-here _ _ _ c.requires.3 c.requires.4 c.requires.5 c.requires.6 c.requires.1 in
-    let r = pip.piped-pattern _ _ _ _ _ _ _ _ _ _ c.requires.3 c.requires.4 c.requires.5 c.requires.6 y c.requires.1 c.pattern_width-w.ensures.0 c.pattern_width-w.ensures.1 refl c.reserve.ensures _ _ _ _ _ _ _ _ _ _ _ c.iterm.ensures c.under-t.ensures in
+    let r = pip.piped-pattern _ _ _ _ _ _ _ _ _ _ c.requires.3 c.requires.4 c.requires.5 c.requires.6 y c.requires.1 c.pattern_width-w.ensures.0 c.pattern_width-w.ensures.1 refl c.reserve.ensures _ _ _ _ _ _ _ _ _ _ _ c.iterm.ensures.is c.under-t.ensures.is in
     (omega (arith, c.decreases, c.requires.4, h.end, h.last, y.within), (r.0, r.1, r.2, omega arith))
 
 pub piped-overflow_add-q-3 : goal.piped-overflow_add-q-3
@@ -1940,17 +1940,17 @@ piped-overflow_add-q-3 t c =
 pub piped-place-requires : goal.piped-place-requires
 piped-place-requires t c =
     let y = c.requires.0 in
-    asks_b.piped-place _ _ _ _ _ _ _ _ _ _ c.requires.3 c.requires.4 c.requires.5 c.requires.6 y c.requires.1 c.pattern_width-w.ensures.0 c.pattern_width-w.ensures.1 refl c.reserve.ensures _ _ _ _ _ _ _ _ _ _ _ _ _ _ c.iterm.ensures c.under-t.ensures c.pattern.ensures c.requires.2
+    asks_b.piped-place _ _ _ _ _ _ _ _ _ _ c.requires.3 c.requires.4 c.requires.5 c.requires.6 y c.requires.1 c.pattern_width-w.ensures.0 c.pattern_width-w.ensures.1 refl c.reserve.ensures _ _ _ _ _ _ _ _ _ _ _ _ _ _ c.iterm.ensures.is c.under-t.ensures.is c.pattern.ensures.is c.requires.2
 
 pub piped-put_piped-requires : goal.piped-put_piped-requires
 piped-put_piped-requires t c =
     let y = c.requires.0 in
-    (pip.piped-put _ _ _ _ _ _ _ _ _ _ c.requires.3 c.requires.4 c.requires.5 c.requires.6 y c.requires.1 c.pattern_width-w.ensures.0 c.pattern_width-w.ensures.1 refl c.reserve.ensures _ _ _ _ _ _ _ _ _ _ _ _ _ _ _ _ _ refl c.iterm.ensures refl c.under-t.ensures c.pattern.ensures c.requires.2 c.place.ensures.0).0
+    (pip.piped-put _ _ _ _ _ _ _ _ _ _ c.requires.3 c.requires.4 c.requires.5 c.requires.6 y c.requires.1 c.pattern_width-w.ensures.0 c.pattern_width-w.ensures.1 refl c.reserve.ensures _ _ _ _ _ _ _ _ _ _ _ _ _ _ _ _ _ refl c.iterm.ensures.is refl c.under-t.ensures.is c.pattern.ensures.is c.requires.2 c.place.ensures.0).0
 
-pub piped-returns : goal.piped-returns
-piped-returns t c =
+pub piped-returns-clause-is : goal.piped-returns-clause-is
+piped-returns-clause-is t c =
     let y = c.requires.0 in
-    pip.piped-did _ _ _ _ _ _ _ _ _ _ c.requires.3 c.requires.4 c.requires.5 c.requires.6 y c.requires.1 c.pattern_width-w.ensures.0 c.pattern_width-w.ensures.1 refl c.reserve.ensures _ _ _ _ _ _ _ _ _ _ _ _ _ _ _ _ _ refl c.iterm.ensures refl c.under-t.ensures c.pattern.ensures _ _ c.place.ensures.0 c.place.ensures.1 c.put_piped.ensures
+    pip.piped-did _ _ _ _ _ _ _ _ _ _ c.requires.3 c.requires.4 c.requires.5 c.requires.6 y c.requires.1 c.pattern_width-w.ensures.0 c.pattern_width-w.ensures.1 refl c.reserve.ensures _ _ _ _ _ _ _ _ _ _ _ _ _ _ _ _ _ refl c.iterm.ensures.is refl c.under-t.ensures.is c.pattern.ensures.is _ _ c.place.ensures.0 c.place.ensures.1 c.put_piped.ensures
 
 pub project-end_of-requires : goal.project-end_of-requires
 project-end_of-requires t c =
@@ -1964,11 +1964,11 @@ project-iterm-requires t c =
     let g = c.requires.1 in
     (omega (arith, c.decreases, c.end_of.ensures, g.behind, y.order, y.within), asks_b.project-ask _ _ _ _ _ _ _ _ _ y g _ c.if-f-eq2.true c.end_of.ensures)
 
-pub project-returns-then-f-eq2 : goal.project-returns-then-f-eq2
-project-returns-then-f-eq2 t c =
+pub project-returns-then-f-eq2-clause-is : goal.project-returns-then-f-eq2-clause-is
+project-returns-then-f-eq2-clause-is t c =
     let y = c.requires.0 in
     let g = c.requires.1 in
-    asks_b.project-ret _ _ _ _ _ _ _ _ _ y g _ c.if-f-eq2.true c.end_of.ensures _ _ _ _ _ _ c.iterm.ensures
+    asks_b.project-ret _ _ _ _ _ _ _ _ _ y g _ c.if-f-eq2.true c.end_of.ensures _ _ _ _ _ _ c.iterm.ensures.is
 
 pub project-insert_error-requires : goal.project-insert_error-requires
 project-insert_error-requires t c =
@@ -1976,8 +1976,8 @@ project-insert_error-requires t c =
     let g = c.requires.1 in
     omega (arith, y.errs)
 
-pub project-bounds-rows-3 : goal.project-bounds-rows-3
-project-bounds-rows-3 t c =
+pub project-bounds-self-3 : goal.project-bounds-self-3
+project-bounds-self-3 t c =
     let y = c.requires.0 in
     let g = c.requires.1 in
     omega (arith, asks_b.rows-some _ _ _ _ _ _ y)
@@ -2006,14 +2006,14 @@ project-put_filter_error-requires t c =
     let g = c.requires.1 in
     omega (arith, y.errs, c.insert_error.ensures.0)
 
-pub project-returns-then-f-eq3 : goal.project-returns-then-f-eq3
-project-returns-then-f-eq3 t c =
+pub project-returns-then-f-eq3-clause-is : goal.project-returns-then-f-eq3-clause-is
+project-returns-then-f-eq3-clause-is t c =
     let y = c.requires.0 in
     let g = c.requires.1 in
     folds.project-fail _ _ _ _ _ _ _ _ _ y g _ _ _ _ _ _ _ _ c.if-f-eq3.true refl refl refl c.insert_error.ensures.0 c.insert_error.ensures.1 c.put_filter_error.ensures
 
-pub project-returns : goal.project-returns
-project-returns t c =
+pub project-returns-clause-is : goal.project-returns-clause-is
+project-returns-clause-is t c =
     let y = c.requires.0 in
     let g = c.requires.1 in
     folds.project-none _ _ _ _ _ _ _ _ _ y g _ _ c.if-f-eq2.false c.if-f-eq3.false
@@ -2058,8 +2058,8 @@ quoted-plain-requires t c =
     let i : is_plain b (c.args.p + 3) c.end_of-z.result ≡ true = sym c.is_plain.ensures ∙ c.if-is_plain.true in
     ((forms_quoted.plain-yes b (c.args.p + 3) c.end_of-z.result i).2, omega (arith, c.end_of-z.ensures, fits), y.small, omega (arith, y.nums), omega (arith, y.offs), pl)
 
-pub quoted-returns-then-is_plain : goal.quoted-returns-then-is_plain
-quoted-returns-then-is_plain t c =
+pub quoted-returns-then-is_plain-clause-is : goal.quoted-returns-then-is_plain-clause-is
+quoted-returns-then-is_plain-clause-is t c =
     let b = c.args.tree.now in
     let y = c.requires.0 in
     let g = c.requires.1 in
@@ -2098,7 +2098,7 @@ quoted-reserve-requires t c =
     let pl = c.requires.2 in
     let e = c.requires.3 in
     let h = forms_quoted.str-here b c.args.p _ _ c.past-q.ensures c.end_of-z.ensures e g in
-    omega (arith, noting.placed-low c.args.o c.args.st.now pl (omega (arith, y.offs)), c.strings_width-w.ensures.1, h.0, y.small)
+    omega (arith, noting.placed-low c.args.o c.args.self.now.st pl (omega (arith, y.offs)), c.strings_width-w.ensures.1, h.0, y.small)
 
 pub quoted-overflow_add-p-3 : goal.quoted-overflow_add-p-3
 quoted-overflow_add-p-3 t c =
@@ -2115,7 +2115,7 @@ quoted-format-requires t c =
     let g = c.requires.1 in
     let e = c.requires.3 in
     let h = forms_quoted.str-here b c.args.p _ _ c.past-q.ensures c.end_of-z.ensures e g in
-    let a = noting.reserved c.args.o _ c.args.st.now _ c.reserve.ensures in
+    let a = noting.reserved c.args.o _ c.args.self.now.st _ c.reserve.ensures in
     ((y.view, c.args.k, y.seen), h.2, y.small, omega (arith, a.0, y.nums), omega (arith, a.1, y.offs, c.strings_width-w.ensures.1, h.0, y.small), omega (arith, a.2, y.errs))
 
 pub quoted-strings-i-requires : goal.quoted-strings-i-requires
@@ -2138,17 +2138,17 @@ quoted-sum_or-requires t c =
     let e = c.requires.3 in
     let h = forms_quoted.str-here b c.args.p _ _ c.past-q.ensures c.end_of-z.ensures e g in
     let few : c.strings_width-w.result ≤ 1048576 = omega (arith, c.strings_width-w.ensures.1, h.0, h.4, y.small) in
-    forms_quoted.str-summed b _ _ _ _ _ _ _ _ _ _ _ _ _ _ _ _ _ c.past-q.ensures c.end_of-z.ensures e y g few c.reserve.ensures refl c.format.ensures c.strings-i.ensures pl
+    forms_quoted.str-summed b _ _ _ _ _ _ _ _ _ _ _ _ _ _ _ _ _ c.past-q.ensures c.end_of-z.ensures e y g few c.reserve.ensures refl c.format.ensures c.strings-i.ensures.is pl
 
-pub quoted-returns : goal.quoted-returns
-quoted-returns t c =
+pub quoted-returns-clause-is : goal.quoted-returns-clause-is
+quoted-returns-clause-is t c =
     let b = c.args.tree.now in
     let y = c.requires.0 in
     let g = c.requires.1 in
     let e = c.requires.3 in
     let h = forms_quoted.str-here b c.args.p _ _ c.past-q.ensures c.end_of-z.ensures e g in
     let few : c.strings_width-w.result ≤ 1048576 = omega (arith, c.strings_width-w.ensures.1, h.0, h.4, y.small) in
-    forms_quoted.str-done b _ _ _ _ _ _ _ _ _ _ _ _ _ _ _ _ _ c.past-q.ensures c.end_of-z.ensures e y g few c.reserve.ensures refl c.format.ensures c.strings-i.ensures c.strings_width-w.ensures.0 _ _ c.sum_or.ensures
+    forms_quoted.str-done b _ _ _ _ _ _ _ _ _ _ _ _ _ _ _ _ _ c.past-q.ensures c.end_of-z.ensures e y g few c.reserve.ensures refl c.format.ensures c.strings-i.ensures.is c.strings_width-w.ensures.0 _ _ c.sum_or.ensures
 
 pub string-bounds-tree-q : goal.string-bounds-tree-q
 string-bounds-tree-q t c =
@@ -2156,13 +2156,13 @@ string-bounds-tree-q t c =
     let g = c.requires.1 in
     omega (arith, forms_strings.string-fits b c.args.q g)
 
-pub string-returns-then-tag : goal.string-returns-then-tag
-string-returns-then-tag t c =
+pub string-returns-then-tag-clause-is : goal.string-returns-then-tag-clause-is
+string-returns-then-tag-clause-is t c =
     let b = c.args.tree.now in
     forms_strings.string-text b _ _ _ _ _ (inl c.if-tag.true)
 
-pub string-returns-then-tag-2 : goal.string-returns-then-tag-2
-string-returns-then-tag-2 t c =
+pub string-returns-then-tag-2-clause-is : goal.string-returns-then-tag-2-clause-is
+string-returns-then-tag-2-clause-is t c =
     let b = c.args.tree.now in
     forms_strings.string-text b _ _ _ _ _ (inr c.if-tag-2.true)
 
@@ -2173,22 +2173,22 @@ string-iterm-requires t c =
     let g = c.requires.1 in
     (omega (arith, c.decreases), (y, forms_strings.string-stands b _ c.if-tag.false c.if-tag-2.false g))
 
-pub string-returns : goal.string-returns
-string-returns t c =
+pub string-returns-clause-is : goal.string-returns-clause-is
+string-returns-clause-is t c =
     let b = c.args.tree.now in
-    forms_strings.string-term b _ _ _ _ _ _ _ _ _ c.if-tag.false c.if-tag-2.false c.iterm.ensures
+    forms_strings.string-term b _ _ _ _ _ _ _ _ _ c.if-tag.false c.if-tag-2.false c.iterm.ensures.is
 
 pub strings-loop-p-init : goal.strings-loop-p-init
 strings-loop-p-init t c =
     let b = c.args.tree.now in
     let y = c.requires.0 in
     let g = c.requires.1 in
-    forms_strings.strings-start b _ _ _ _ _ _ y g
+    (record { rows = refl; out = refl }, forms_strings.strings-start b _ _ _ _ _ _ y g)
 
 pub strings-string-requires : goal.strings-string-requires
 strings-string-requires t c =
     let b = c.args.tree.now in
-    let v = c.loop-p.invariant in
+    let v = c.loop-p.invariant.1 in
     let w = forms_strings.strings-next b _ _ _ _ _ _ _ _ _ _ _ v c.loop-p-test.true in
     let fits = forms_strings.string-fits b _ w.1 in
     (omega (arith, c.decreases, v.low, fits), (w.0, w.1))
@@ -2196,27 +2196,27 @@ strings-string-requires t c =
 pub strings-note-requires : goal.strings-note-requires
 strings-note-requires t c =
     let b = c.args.tree.now in
-    let v = c.loop-p.invariant in
+    let v = c.loop-p.invariant.1 in
     let w = forms_strings.strings-next b _ _ _ _ _ _ _ _ _ _ _ v c.loop-p-test.true in
-    (omega (arith, noting.note-room b _ _ _ _ _ w.0 (omega arith), c.string.ensures.paid.same), noting.note-few b _ _ _ _ _ w.0 (omega arith), omega arith)
+    (omega (arith, noting.note-room b _ _ _ _ _ w.0 (omega arith), c.string.ensures.is.paid.same), noting.note-few b _ _ _ _ _ w.0 (omega arith), omega arith)
 
 pub strings-end_of-p-requires : goal.strings-end_of-p-requires
 strings-end_of-p-requires t c =
     let b = c.args.tree.now in
-    let v = c.loop-p.invariant in
+    let v = c.loop-p.invariant.1 in
     let w = forms_strings.strings-next b _ _ _ _ _ _ _ _ _ _ _ v c.loop-p-test.true in
     let fits = forms_strings.string-fits b _ w.1 in
     fits
 
 pub strings-overflow_add-i : goal.strings-overflow_add-i
 strings-overflow_add-i t c =
-    let v = c.loop-p.invariant in
+    let v = c.loop-p.invariant.1 in
     omega (arith, v.ready.seen.within, v.ready.seen.small)
 
 pub strings-loop-p-smaller : goal.strings-loop-p-smaller
 strings-loop-p-smaller t c =
     let b = c.args.tree.now in
-    let v = c.loop-p.invariant in
+    let v = c.loop-p.invariant.1 in
     let w = forms_strings.strings-next b _ _ _ _ _ _ _ _ _ _ _ v c.loop-p-test.true in
     let fits = forms_strings.string-fits b _ w.1 in
     omega (arith, c.end_of-p.ensures, fits)
@@ -2224,13 +2224,13 @@ strings-loop-p-smaller t c =
 pub strings-loop-p-preserved : goal.strings-loop-p-preserved
 strings-loop-p-preserved t c =
     let b = c.args.tree.now in
-    let v = c.loop-p.invariant in
-    forms_strings.strings-again b _ _ _ _ _ _ _ _ _ _ _ _ _ _ _ _ _ v c.loop-p-test.true refl c.string.ensures c.note.ensures c.end_of-p.ensures
+    let v = c.loop-p.invariant.1 in
+    (record { rows = c.string.ensures.same.rows ∙ c.loop-p.invariant.0.rows; out = c.string.ensures.same.out ∙ c.loop-p.invariant.0.out }, forms_strings.strings-again b _ _ _ _ _ _ _ _ _ _ _ _ _ _ _ _ _ v c.loop-p-test.true refl c.string.ensures.is c.note.ensures c.end_of-p.ensures)
 
-pub strings-returns : goal.strings-returns
-strings-returns t c =
+pub strings-returns-clause-is : goal.strings-returns-clause-is
+strings-returns-clause-is t c =
     let b = c.args.tree.now in
-    let v = c.loop-p.invariant in
+    let v = c.loop-p.invariant.1 in
     forms_strings.strings-done b _ _ _ _ _ _ _ _ _ _ _ v c.loop-p-test.false
 
 pub term-bounds-tree-p : goal.term-bounds-tree-p
@@ -2359,64 +2359,64 @@ term-obj-requires t c =
     let h = c.requires.2 in
     (omega (arith, c.decreases), (y, g, h, terms.last-tag _ _ g (λ e. omega arith) (λ e. omega arith) (λ e. omega arith) (λ e. omega arith) (λ e. omega arith) (λ e. omega arith) (λ e. omega arith) (λ e. omega arith) (λ e. omega arith) (λ e. omega arith) (λ e. omega arith) (λ e. omega arith) (λ e. omega arith) (λ e. omega arith) (λ e. omega arith) (λ e. omega arith)))
 
-pub term-returns-in-160 : goal.term-returns-in-160
-term-returns-in-160 t c =
+pub term-returns-in-160-clause-is : goal.term-returns-in-160-clause-is
+term-returns-in-160-clause-is t c =
     let y = c.requires.0 in
     let g = c.requires.1 in
     let h = c.requires.2 in
     leaves.id-bare _ _ _ _ _ _ _ _ _ _ _ c.in-160.is (omega (arith, y.offs)) c.bare.ensures
 
-pub term-returns-in-161 : goal.term-returns-in-161
-term-returns-in-161 t c =
+pub term-returns-in-161-clause-is : goal.term-returns-in-161-clause-is
+term-returns-in-161-clause-is t c =
     let y = c.requires.0 in
     let g = c.requires.1 in
     let h = c.requires.2 in
     leaves.recurse-bare _ _ _ _ _ _ _ _ _ _ _ c.in-161.is (omega (arith, y.offs)) c.bare-in-161.ensures
 
-pub term-returns-in-162 : goal.term-returns-in-162
-term-returns-in-162 t c = c.arr.ensures _
+pub term-returns-in-162-clause-is : goal.term-returns-in-162-clause-is
+term-returns-in-162-clause-is t c = c.arr.ensures.is _
 
-pub term-returns-in-163 : goal.term-returns-in-163
-term-returns-in-163 t c = c.neg.ensures _
+pub term-returns-in-163-clause-is : goal.term-returns-in-163-clause-is
+term-returns-in-163-clause-is t c = c.neg.ensures.is _
 
-pub term-returns-in-164 : goal.term-returns-in-164
-term-returns-in-164 t c = c.label.ensures _
+pub term-returns-in-164-clause-is : goal.term-returns-in-164-clause-is
+term-returns-in-164-clause-is t c = c.label.ensures.is _
 
-pub term-returns-in-165 : goal.term-returns-in-165
-term-returns-in-165 t c = c.named.ensures _ _
+pub term-returns-in-165-clause-is : goal.term-returns-in-165-clause-is
+term-returns-in-165-clause-is t c = c.named.ensures.is _ _
 
-pub term-returns-in-166 : goal.term-returns-in-166
-term-returns-in-166 t c = c.ite.ensures
+pub term-returns-in-166-clause-is : goal.term-returns-in-166-clause-is
+term-returns-in-166-clause-is t c = c.ite.ensures.is
 
-pub term-returns-in-167 : goal.term-returns-in-167
-term-returns-in-167 t c = c.named-in-167.ensures _ _
+pub term-returns-in-167-clause-is : goal.term-returns-in-167-clause-is
+term-returns-in-167-clause-is t c = c.named-in-167.ensures.is _ _
 
-pub term-returns-in-168 : goal.term-returns-in-168
-term-returns-in-168 t c = c.call.ensures
+pub term-returns-in-168-clause-is : goal.term-returns-in-168-clause-is
+term-returns-in-168-clause-is t c = c.call.ensures.is
 
-pub term-returns-in-169 : goal.term-returns-in-169
-term-returns-in-169 t c = c.def.ensures
+pub term-returns-in-169-clause-is : goal.term-returns-in-169-clause-is
+term-returns-in-169-clause-is t c = c.def.ensures.is
 
-pub term-returns-in-170 : goal.term-returns-in-170
-term-returns-in-170 t c = c.num.ensures _ _ _
+pub term-returns-in-170-clause-is : goal.term-returns-in-170-clause-is
+term-returns-in-170-clause-is t c = c.num.ensures.is _ _
 
-pub term-returns-in-171 : goal.term-returns-in-171
-term-returns-in-171 t c = c.trial.ensures _
+pub term-returns-in-171-clause-is : goal.term-returns-in-171-clause-is
+term-returns-in-171-clause-is t c = c.trial.ensures.is _
 
-pub term-returns-in-172 : goal.term-returns-in-172
-term-returns-in-172 t c = c.fold.ensures
+pub term-returns-in-172-clause-is : goal.term-returns-in-172-clause-is
+term-returns-in-172-clause-is t c = c.fold.ensures.is
 
-pub term-returns-in-173 : goal.term-returns-in-173
-term-returns-in-173 t c = c.binary.ensures
+pub term-returns-in-173-clause-is : goal.term-returns-in-173-clause-is
+term-returns-in-173-clause-is t c = c.binary.ensures.is
 
-pub term-returns-in-174 : goal.term-returns-in-174
-term-returns-in-174 t c = c.path.ensures _
+pub term-returns-in-174-clause-is : goal.term-returns-in-174-clause-is
+term-returns-in-174-clause-is t c = c.path.ensures.is _
 
-pub term-returns-in-175 : goal.term-returns-in-175
-term-returns-in-175 t c = c.quoted.ensures _
+pub term-returns-in-175-clause-is : goal.term-returns-in-175-clause-is
+term-returns-in-175-clause-is t c = c.quoted.ensures.is _
 
-pub term-returns-in_default : goal.term-returns-in_default
-term-returns-in_default t c = c.obj.ensures _
+pub term-returns-in_default-clause-is : goal.term-returns-in_default-clause-is
+term-returns-in_default-clause-is t c = c.obj.ensures.is _
 
 pub trial-reserve-requires : goal.trial-reserve-requires
 trial-reserve-requires t c =
@@ -2458,7 +2458,7 @@ trial-or_empty-requires t c =
     let g = c.requires.1 in
     let e = c.requires.3 in
     let f = asks.stands-fits _ _ g in
-    let w = simple.catch-ready _ _ _ _ _ _ _ _ _ _ _ _ e y g c.reserve.ensures c.iterm.ensures in
+    let w = simple.catch-ready _ _ _ _ _ _ _ _ _ _ _ _ e y g c.reserve.ensures c.iterm.ensures.is in
     (omega (arith, c.decreases, f, c.end_of.ensures), simple.catch-at _ _ _ _ _ _ c.end_of.ensures c.end_of-2.ensures w)
 
 pub trial-place-requires : goal.trial-place-requires
@@ -2468,7 +2468,7 @@ trial-place-requires t c =
     let e = c.requires.3 in
     let f = asks.stands-fits _ _ g in
     let w = simple.try-ready _ _ _ _ _ _ _ e y g c.reserve.ensures in
-    asks.place-both _ _ _ _ _ _ _ _ _ _ _ _ _ _ _ _ _ _ _ _ _ _ _ y c.reserve.ensures (omega arith) c.iterm.ensures (asks.stands-fits _ _ w.1) c.or_empty.ensures (omega (arith, c.end_of-2.ensures, f))
+    asks.place-both _ _ _ _ _ _ _ _ _ _ _ _ _ _ _ _ _ _ _ _ _ _ _ y c.reserve.ensures (omega arith) c.iterm.ensures.is (asks.stands-fits _ _ w.1) c.or_empty.ensures.is (omega (arith, c.end_of-2.ensures, f))
 
 pub trial-put_two-requires : goal.trial-put_two-requires
 trial-put_two-requires t c =
@@ -2477,18 +2477,18 @@ trial-put_two-requires t c =
     let e = c.requires.3 in
     let f = asks.stands-fits _ _ g in
     let w = simple.try-ready _ _ _ _ _ _ _ e y g c.reserve.ensures in
-    asks.own-both _ _ _ _ _ _ _ _ _ _ _ _ _ _ _ _ _ _ _ _ _ _ _ _ y c.requires.2 c.reserve.ensures (omega arith) c.iterm.ensures (asks.stands-fits _ _ w.1) c.or_empty.ensures (omega (arith, c.end_of-2.ensures, f)) c.place.ensures.0
+    asks.own-both _ _ _ _ _ _ _ _ _ _ _ _ _ _ _ _ _ _ _ _ _ _ _ _ y c.requires.2 c.reserve.ensures (omega arith) c.iterm.ensures.is (asks.stands-fits _ _ w.1) c.or_empty.ensures.is (omega (arith, c.end_of-2.ensures, f)) c.place.ensures.0
 
-pub trial-returns : goal.trial-returns
-trial-returns t c =
+pub trial-returns-clause-is : goal.trial-returns-clause-is
+trial-returns-clause-is t c =
     let y = c.requires.0 in
     let g = c.requires.1 in
     let e = c.requires.3 in
     let f = asks.stands-fits _ _ g in
-    simple.try-did _ _ _ _ _ _ _ _ _ _ _ _ _ _ _ _ _ _ _ _ e y g c.reserve.ensures refl c.iterm.ensures refl (simple.catch-or _ _ _ _ _ _ _ _ _ _ _ c.end_of.ensures c.end_of-2.ensures c.or_empty.ensures) c.place.ensures.0 c.place.ensures.1 c.put_two.ensures
+    simple.try-did _ _ _ _ _ _ _ _ _ _ _ _ _ _ _ _ _ _ _ _ e y g c.reserve.ensures refl c.iterm.ensures.is refl (simple.catch-or _ _ _ _ _ _ _ _ _ _ _ c.end_of.ensures c.end_of-2.ensures c.or_empty.ensures.is) c.place.ensures.0 c.place.ensures.1 c.put_two.ensures
 
-pub under-bounds-rows-1 : goal.under-bounds-rows-1
-under-bounds-rows-1 t c =
+pub under-bounds-self-1 : goal.under-bounds-self-1
+under-bounds-self-1 t c =
     let y = c.requires.0 in
     omega (arith, asks_b.rows-some _ _ _ _ _ _ y)
 
@@ -2515,15 +2515,15 @@ under-iterm-t-requires t c =
 pub under-close-requires : goal.under-close-requires
 under-close-requires t c =
     let y = c.requires.0 in
-    asks_b.under-shut _ _ _ _ _ y c.requires.1 c.requires.2 c.requires.3 _ _ _ (asks_b.bound_of _ _ _ _ _ _ c.bind_vars-i.ensures) c.end_of.ensures _ _ _ _ _ _ c.iterm-t.ensures
+    asks_b.under-shut _ _ _ _ _ y c.requires.1 c.requires.2 c.requires.3 _ _ _ (asks_b.bound_of _ _ _ _ _ _ c.bind_vars-i.ensures) c.end_of.ensures _ _ _ _ _ _ c.iterm-t.ensures.is
 
-pub under-returns : goal.under-returns
-under-returns t c =
+pub under-returns-clause-is : goal.under-returns-clause-is
+under-returns-clause-is t c =
     let y = c.requires.0 in
-    asks_b.under-ret _ _ _ _ _ y c.requires.1 c.requires.2 c.requires.3 _ _ _ (asks_b.bound_of _ _ _ _ _ _ c.bind_vars-i.ensures) c.end_of.ensures _ _ _ _ _ _ c.iterm-t.ensures _ _ refl c.close.ensures
+    asks_b.under-ret _ _ _ _ _ y c.requires.1 c.requires.2 c.requires.3 _ _ _ (asks_b.bound_of _ _ _ _ _ _ c.bind_vars-i.ensures) c.end_of.ensures _ _ _ _ _ _ c.iterm-t.ensures.is _ _ refl c.close.ensures
 
-pub update-bounds-rows-1 : goal.update-bounds-rows-1
-update-bounds-rows-1 t c =
+pub update-bounds-self-1 : goal.update-bounds-self-1
+update-bounds-self-1 t c =
     let y = c.requires.0 in
     omega (arith, asks_b.rows-some _ _ _ _ _ _ y)
 
@@ -2541,15 +2541,15 @@ update-iterm-requires t c =
 pub update-project-t-requires : goal.update-project-t-requires
 update-project-t-requires t c =
     let y = c.requires.0 in
-    (omega (arith, c.decreases), (folds.update-project _ _ _ _ _ _ _ _ _ _ y c.requires.1 c.requires.2 c.requires.3 c.requires.4 c.requires.5 _ (asks_b.unnoted-of _ _ _ _ _ c.bind_notes.ensures) _ _ _ _ _ c.iterm.ensures, c.requires.5))
+    (omega (arith, c.decreases), (folds.update-project _ _ _ _ _ _ _ _ _ _ y c.requires.1 c.requires.2 c.requires.3 c.requires.4 c.requires.5 _ (asks_b.unnoted-of _ _ _ _ _ c.bind_notes.ensures) _ _ _ _ _ c.iterm.ensures.is, c.requires.5))
 
 pub update-close-requires : goal.update-close-requires
 update-close-requires t c =
     let y = c.requires.0 in
-    let a = folds.update-close _ _ _ _ _ _ _ _ _ _ y c.requires.1 c.requires.2 c.requires.3 c.requires.4 c.requires.5 _ (asks_b.unnoted-of _ _ _ _ _ c.bind_notes.ensures) _ _ _ _ _ c.iterm.ensures _ _ _ _ _ c.project-t.ensures in
+    let a = folds.update-close _ _ _ _ _ _ _ _ _ _ y c.requires.1 c.requires.2 c.requires.3 c.requires.4 c.requires.5 _ (asks_b.unnoted-of _ _ _ _ _ c.bind_notes.ensures) _ _ _ _ _ c.iterm.ensures.is _ _ _ _ _ c.project-t.ensures.is in
     opened.close-ready _ _ _ _ _ a.0 a.1 a.2
 
-pub update-returns : goal.update-returns
-update-returns t c =
+pub update-returns-clause-is : goal.update-returns-clause-is
+update-returns-clause-is t c =
     let y = c.requires.0 in
-    folds.update-is _ _ _ _ _ _ _ _ _ _ y c.requires.1 c.requires.2 c.requires.3 c.requires.4 c.requires.5 _ (asks_b.unnoted-of _ _ _ _ _ c.bind_notes.ensures) _ _ _ _ _ c.iterm.ensures _ _ _ _ _ c.project-t.ensures _ _ _ refl c.close.ensures refl refl
+    folds.update-is _ _ _ _ _ _ _ _ _ _ y c.requires.1 c.requires.2 c.requires.3 c.requires.4 c.requires.5 _ (asks_b.unnoted-of _ _ _ _ _ c.bind_notes.ensures) _ _ _ _ _ c.iterm.ensures.is _ _ _ _ _ c.project-t.ensures.is _ _ _ refl c.close.ensures refl refl

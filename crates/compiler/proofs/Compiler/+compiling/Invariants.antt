@@ -1,4 +1,5 @@
 use Prim.Native.Nat.{◌+◌, ◌-◌, ◌*◌}
+use Rattle.compiler.specs.Same.{Same}
 use Rattle.compiler.specs.FormsD.Args.{Passing}
 use lib.ListN.{length}
 use Rattle.compiler.specs.FormsA.Pairs.{Pairing}
@@ -9,7 +10,7 @@ use Rattle.compiler.specs.FormsD.Defs.{Scoping}
 use Rattle.compiler.specs.FormsC.Objects as forms_objects
 use Prim.Native.Nat.{◌+◌, ◌-◌}
 use Rattle.compiler.specs.FormsC.Strings as forms_strings
-use Rattle.compiler.proofs.+compiling.Given as goal
+use Rattle.compiler.proofs.Compiler.+compiling.Given as goal
 
 abbrev pub decreases-args : goal.decreases-args
 decreases-args l = 16 * (length l.tree.now - l.q) + 5
@@ -126,49 +127,49 @@ abbrev pub decreases-update : goal.decreases-update
 decreases-update l = 16 * (length l.tree.now - l.p) + 1
 
 abbrev pub invariant-args-loop-i : goal.invariant-args-loop-i
-invariant-args-loop-i l = Passing l.tree l.q l.a l.initial.rows l.k l.initial.st l.initial.out l.p l.i l.rows l.st l.out
+invariant-args-loop-i l = Same l.initial.self l.self × Passing l.tree l.q l.a l.initial.self.rows.now l.k l.initial.self.st l.initial.self.out.now l.p l.i l.self.rows.now l.self.st l.self.out.now
 
 abbrev pub decreases-args-loop-i : goal.decreases-args-loop-i
 decreases-args-loop-i l = l.a - l.i
 
 abbrev pub invariant-defs-loop-p : goal.invariant-defs-loop-p
-invariant-defs-loop-p l = Scoping l.tree l.q l.initial.rows l.k l.initial.st l.initial.out l.allowed l.p l.i l.rows l.st l.out
+invariant-defs-loop-p l = Same l.initial.self l.self × Scoping l.tree l.q l.initial.self.rows.now l.k l.initial.self.st l.initial.self.out.now l.allowed l.p l.i l.self.rows.now l.self.st l.self.out.now
 
 abbrev pub decreases-defs-loop-p : goal.decreases-defs-loop-p
 decreases-defs-loop-p l = length l.tree - l.p
 
 abbrev pub invariant-entries-loop-p : goal.invariant-entries-loop-p
-invariant-entries-loop-p l = forms_objects.Entering l.tree l.q l.z l.initial.rows l.k l.initial.st l.initial.out l.p l.i l.rows l.st l.out
+invariant-entries-loop-p l = Same l.initial.self l.self × forms_objects.Entering l.tree l.q l.z l.initial.self.rows.now l.k l.initial.self.st l.initial.self.out.now l.p l.i l.self.rows.now l.self.st l.self.out.now
 
 abbrev pub decreases-entries-loop-p : goal.decreases-entries-loop-p
 decreases-entries-loop-p l = length l.tree - l.p
 
 abbrev pub invariant-items-loop-p : goal.invariant-items-loop-p
-invariant-items-loop-p l = mems.ItemsGo l.tree l.q l.initial.rows l.k l.initial.st l.initial.out l.p l.i l.j l.rows l.st l.out
+invariant-items-loop-p l = Same l.initial.self l.self × mems.ItemsGo l.tree l.q l.initial.self.rows.now l.k l.initial.self.st l.initial.self.out.now l.p l.i l.j l.self.rows.now l.self.st l.self.out.now
 
 abbrev pub decreases-items-loop-p : goal.decreases-items-loop-p
 decreases-items-loop-p l = length l.tree - l.p
 
 abbrev pub invariant-keyed-loop-p : goal.invariant-keyed-loop-p
-invariant-keyed-loop-p l = mems.KeyedGo l.tree l.q l.initial.rows l.k l.initial.st l.initial.out l.p l.j l.rows l.st l.out
+invariant-keyed-loop-p l = Same l.initial.self l.self × mems.KeyedGo l.tree l.q l.initial.self.rows.now l.k l.initial.self.st l.initial.self.out.now l.p l.j l.self.rows.now l.self.st l.self.out.now
 
 abbrev pub decreases-keyed-loop-p : goal.decreases-keyed-loop-p
 decreases-keyed-loop-p l = length l.tree - l.p
 
 abbrev pub invariant-pairs-loop-a : goal.invariant-pairs-loop-a
-invariant-pairs-loop-a l = Pairing l.tree l.q l.z l.initial.rows l.k l.initial.st l.initial.out l.allowed l.p l.i l.t l.rows l.st l.out
+invariant-pairs-loop-a l = Same l.initial.self l.self × Pairing l.tree l.q l.z l.initial.self.rows.now l.k l.initial.self.st l.initial.self.out.now l.allowed l.p l.i l.t l.self.rows.now l.self.st l.self.out.now
 
 abbrev pub decreases-pairs-loop-a : goal.decreases-pairs-loop-a
 decreases-pairs-loop-a l = length l.tree - l.p
 
 abbrev pub invariant-parts-loop-p : goal.invariant-parts-loop-p
-invariant-parts-loop-p l = forms_paths.Parting l.tree l.q l.z l.initial.rows l.k l.initial.st l.initial.out l.p l.i l.rows l.st l.out
+invariant-parts-loop-p l = Same l.initial.self l.self × forms_paths.Parting l.tree l.q l.z l.initial.self.rows.now l.k l.initial.self.st l.initial.self.out.now l.p l.i l.self.rows.now l.self.st l.self.out.now
 
 abbrev pub decreases-parts-loop-p : goal.decreases-parts-loop-p
 decreases-parts-loop-p l = length l.tree - l.p
 
 abbrev pub invariant-strings-loop-p : goal.invariant-strings-loop-p
-invariant-strings-loop-p l = forms_strings.Stringing l.tree l.q l.z l.initial.rows l.k l.initial.st l.initial.out l.p l.i l.rows l.st l.out
+invariant-strings-loop-p l = Same l.initial.self l.self × forms_strings.Stringing l.tree l.q l.z l.initial.self.rows.now l.k l.initial.self.st l.initial.self.out.now l.p l.i l.self.rows.now l.self.st l.self.out.now
 
 abbrev pub decreases-strings-loop-p : goal.decreases-strings-loop-p
 decreases-strings-loop-p l = length l.tree - l.p
