@@ -18,6 +18,7 @@ ghost use Rattle.rules.specs.Outs.{arity, left_allows, right_allows, slot, bare}
 ghost use Rattle.rules.specs.Listing.{rec_bytes};
 ghost use Rattle.rules.specs.Rules.{term, called};
 ghost use Rattle.reads.specs.Bytes.{past, TermAt, PatternAt, DefAt};
+ghost use Rattle.reads.specs.Kinds.{fold_number};
 ghost use Rattle.reads.specs.Parts.{NoHead};
 ghost use Rattle.reads.specs.Shapes.{EntryAt};
 ghost use Rattle.puts.specs.State.{num, off, ers, start_of, spot_of, next_of, Put, Own};
@@ -34,6 +35,7 @@ use puts::put::{put_bare, put_one};
 use puts::state::{LATE, State};
 use puts::{calls, put};
 use reads::bytes::{end_of, members};
+use reads::width::FoldKind;
 use reads::{bytes, width};
 
 // What is written as the compiler goes: the rows, how far it is, and the room.
@@ -537,7 +539,7 @@ impl Compiler<'_, '_> {
         allowed: u64,
         f: width::Fold,
     ) -> Updated
-        requires { Ready tree.now self.old.rows.now i f.u (end_of tree.now p) self.old.st × (k ≤ i) × ((vw : View) × Seen vw tree.now self.old.rows.now k) × Noted tree.now self.old.rows.now k i × Stands tree.now f.u × Folding tree.now p f.x f.u f.a f.kind }
+        requires { Ready tree.now self.old.rows.now i f.u (end_of tree.now p) self.old.st × (k ≤ i) × ((vw : View) × Seen vw tree.now self.old.rows.now k) × Noted tree.now self.old.rows.now k i × Stands tree.now f.u × Folding tree.now p f.x f.u f.a (fold_number f.kind) }
         ensures same { Same self.old self.new }
         ensures is { Updating tree.now p f.u f.a self.old.rows.now self.new.rows.now k i self.old.st self.new.st self.old.out.now self.new.out.now allowed result }
     {
@@ -553,14 +555,11 @@ impl Compiler<'_, '_> {
     // "`reduce` needs two, `foreach` two or three; any other name or count fails likewise after update, compiling no more."
     #[cycle(compiling)]
     fn project(&mut self, tree: &[u8], p: usize, k: usize, allowed: u64, f: width::Fold) -> u64
-        requires { Ready tree.now self.old.rows.now k (end_of tree.now f.u) (end_of tree.now p) self.old.st × Folding tree.now p f.x f.u f.a f.kind }
+        requires { Ready tree.now self.old.rows.now k (end_of tree.now f.u) (end_of tree.now p) self.old.st × Folding tree.now p f.x f.u f.a (fold_number f.kind) }
         ensures same { Same self.old self.new }
         ensures is { Projected tree.now p f.u f.a self.old.rows.now self.new.rows.now k self.old.st self.new.st self.old.out.now self.new.out.now allowed result }
     {
-        if f.kind == 2 {
-            return self.iterm(tree, end_of(tree, f.u), k, allowed);
-        }
-        if f.kind == 3 {
+        let Some(kind) = f.kind else {
             let home = self.rows[cells::HOME] as usize;
             put::put_filter_error(
                 self.out,
@@ -571,6 +570,9 @@ impl Compiler<'_, '_> {
                 f.a,
             );
             return 0;
+        };
+        if let FoldKind::Projected = kind {
+            return self.iterm(tree, end_of(tree, f.u), k, allowed);
         }
         0
     }
