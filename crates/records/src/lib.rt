@@ -37,7 +37,7 @@ use puts::put::{
     put_text, put_three, put_two, put1,
 };
 use puts::state::State;
-use reads::bytes::{end_of, members};
+use reads::bytes::{end_of, fields, members};
 use reads::width::FoldKind;
 use reads::{bytes, width};
 
@@ -65,9 +65,7 @@ pub fn elses(rows: &[u64], k: usize, i: usize, st: &mut State, out: &mut [u8]) -
     requires { (k ≤ i) × (4 * i ≤ length rows.now) × (num st.old + (i - k) + 1 < 2 ^ 64) × (off st.old + 9 * (i - k) < 2 ^ 64) }
     ensures { Elsed (pairs_at rows.now k (i - k)) st.old st.new out.old out.new result }
 {
-    let mut j = i;
-    while k + 1 < j {
-        j -= 1;
+    for j in (k + 1..i).rev() {
         let n = st.terms;
         put_pair(rows, j, n, out, st.insert(9));
     }
@@ -135,13 +133,11 @@ fn put_pattern(tree: &[u8], q: usize, rows: &[u64], k: usize, out: &mut [u8], o:
     let z = end_of(tree, q);
     put1(out, o, 2);
     put_number(out, o + 1, members(tree, q + 3, z));
-    let mut p = q + 3;
     let mut x = o + 3;
     let mut j = k + 1;
-    while p < z {
+    for p in fields(tree, q + 3, z) {
         put_number(out, x, number(rows, j));
         let s = put_pattern(tree, bytes::sub_pattern(tree, tag, p), rows, j, out, x + 2);
-        p = end_of(tree, p);
         x = s.o;
         j = s.k;
     }
@@ -254,12 +250,10 @@ fn put_parts(tree: &[u8], q: usize, z: usize, rows: &[u64], k: usize, out: &mut 
     requires { PartsReady tree.now rows.now q z k o }
     ensures { (xs : Parts) → Row tree.now (f_parts xs rnil) q z → out.new ≡ overlay out.old o (steps_bytes 2 (steps_at rows.now xs k)) }
 {
-    let mut p = q;
     let mut j = k;
     let mut x = o;
-    while p < z {
+    for p in fields(tree, q, z) {
         x = put_part(tree, p, number(rows, j), last(rows, j) as usize, out, x);
-        p = end_of(tree, p);
         j += 1;
     }
 }
@@ -359,13 +353,11 @@ fn sums(tree: &[u8], rows: &[u64], k: usize, i: usize, f: usize, st: &mut State,
     requires { (k < i) × SumReady tree.now rows.now f k i (off st.old) × (num st.old + 2 * (i - k) < 2 ^ 64) }
     ensures { (ts : List Node) (p : ℕ) (t : Node) → Summands tree.now rows.now f k ts → i ≡ k + length ts → SumsPut p t ts st.old st.new out.old out.new }
 {
-    let mut j = i - 1;
-    while k < j {
+    for j in (k + 1..i).rev() {
         let n = st.terms;
         let x = put_summand(tree, rows, j - 1, f, out, st.end);
         st.end = put_sum(tree, rows, j, i, f, n, out, x);
         st.terms = n + 2;
-        j -= 1;
     }
 }
 
@@ -404,14 +396,12 @@ fn put_args(tree: &[u8], rows: &[u64], j: usize, k: usize, a: usize, out: &mut [
 {
     put_number(out, o, a);
     let mut p = end_of(tree, cells::place(rows, j));
-    let mut i = 0;
     let mut x = o + 2;
-    while i < a {
+    for i in 0..a {
         put1(out, x, flag(!bytes::is_var(tree, p)));
         put_number(out, x + 1, number(rows, k + i));
         p = end_of(tree, p);
         x += 3;
-        i += 1;
     }
 }
 

@@ -40,12 +40,6 @@ end_of-p-requires-in-loop-i c = next_fits _ _ _ _ _ _ _ _ _ _ _ c.loop-i.invaria
 pub overflow_add-x-in-loop-i-2 : goal.overflow_add-x-in-loop-i-2
 overflow_add-x-in-loop-i-2 c = omega (arith, c.loop-i.invariant.at, c.loop-i-test.true, c.requires.room)
 
-pub overflow_add-i : goal.overflow_add-i
-overflow_add-i c = omega (arith, c.loop-i-test.true)
-
-pub loop-i-smaller : goal.loop-i-smaller
-loop-i-smaller c = omega (arith, c.loop-i-test.true)
-
 pub loop-i-preserved : goal.loop-i-preserved
 loop-i-preserved c = rw c.end_of-p-in-loop-i.ensures (again _ _ _ _ _ _ _ _ _ _ _ _ _ _ _ _ c.loop-i.invariant c.loop-i-test.true c.is_var.ensures c.flag.ensures c.put1.ensures c.number.ensures c.put_number-in-loop-i.ensures (search rules))
 

@@ -1,5 +1,4 @@
 -- `records::put_folding` meets its contract: the kind, and for a projection a number behind it. Assumes nothing.
-use Prim.Native.Nat.{ℕ}
 use native.Mathlib.Omega.{arith}
 use mathlib.Core.Path.{◌≡◌, refl, ap, ◌∙◌}
 use lib.ListN.{set}
