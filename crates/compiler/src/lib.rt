@@ -34,7 +34,7 @@ use cells::{close, note};
 use puts::put::{put_bare, put_one};
 use puts::state::{LATE, State};
 use puts::{calls, put};
-use reads::bytes::{end_of, members};
+use reads::bytes::{end_of, fields, members};
 use reads::width::FoldKind;
 use reads::{bytes, width};
 
@@ -252,6 +252,7 @@ impl Compiler<'_, '_> {
         ensures same { Same self.old self.new }
         ensures is { Paired tree.now q z self.old.rows.now self.new.rows.now k self.old.st self.new.st self.old.out.now self.new.out.now allowed result }
     {
+        // Kept: the place moves in a loop, which ends at another tag, and the place where it ends is given back (d).
         let mut p = q;
         let mut i = k;
         let mut t = 0;
@@ -440,14 +441,12 @@ impl Compiler<'_, '_> {
         ensures is { Members tree.now q self.old.rows.now self.new.rows.now k self.old.st self.new.st self.old.out.now self.new.out.now result }
     {
         let z = end_of(tree, q);
-        let mut p = q + 3;
         let mut i = 0;
         let mut j = k;
-        while p < z {
+        for p in fields(tree, q + 3, z) {
             let n = self.st.terms;
             put::put_int(self.out, self.st.insert(11), i);
             j = self.pattern(tree, p, j, n);
-            p = end_of(tree, p);
             i += 1;
         }
         j
@@ -461,13 +460,11 @@ impl Compiler<'_, '_> {
         ensures is { Keyed tree.now q self.old.rows.now self.new.rows.now k self.old.st self.new.st self.old.out.now self.new.out.now result }
     {
         let z = end_of(tree, q);
-        let mut p = q + 3;
         let mut j = k;
-        while p < z {
+        for p in fields(tree, q + 3, z) {
             let n = self.st.terms;
             self.iterm(tree, p + 3, j, 0);
             j = self.pattern(tree, end_of(tree, p + 3), j, n);
-            p = end_of(tree, p);
         }
         j
     }
@@ -606,11 +603,9 @@ impl Compiler<'_, '_> {
         ensures same { Same self.old self.new }
         ensures is { Parted tree.now q z self.old.rows.now self.new.rows.now k self.old.st self.new.st self.old.out.now self.new.out.now result }
     {
-        let mut p = q;
         let mut i = k;
-        while p < z {
+        for p in fields(tree, q, z) {
             self.part(tree, p, i);
-            p = end_of(tree, p);
             i += 1;
         }
         i
@@ -706,13 +701,11 @@ impl Compiler<'_, '_> {
         ensures same { Same self.old self.new }
         ensures is { Strung tree.now q z self.old.rows.now self.new.rows.now k self.old.st self.new.st self.old.out.now self.new.out.now result }
     {
-        let mut p = q;
         let mut i = k;
-        while p < z {
+        for p in fields(tree, q, z) {
             let n = self.st.terms;
             self.string(tree, p, i);
             note(self.rows, i, cells::PIECE, n, p);
-            p = end_of(tree, p);
             i += 1;
         }
         i
@@ -760,11 +753,9 @@ impl Compiler<'_, '_> {
         ensures same { Same self.old self.new }
         ensures is { Entered tree.now q z self.old.rows.now self.new.rows.now k self.old.st self.new.st self.old.out.now self.new.out.now result }
     {
-        let mut p = q;
         let mut i = k;
-        while p < z {
+        for p in fields(tree, q, z) {
             self.obj_entry(tree, p, i);
-            p = end_of(tree, p);
             i += 1;
         }
         i
@@ -859,13 +850,11 @@ impl Compiler<'_, '_> {
         ensures is { Passed tree.now q a self.old.rows.now self.new.rows.now k self.old.st self.new.st self.old.out.now self.new.out.now }
     {
         let mut p = q;
-        let mut i = 0;
-        while i < a {
+        for i in 0..a {
             let n = self.st.terms;
             self.iterm(tree, p, k + i, 0);
             note(self.rows, k + i, cells::KEPT, n, 0);
             p = end_of(tree, p);
-            i += 1;
         }
     }
 }
@@ -907,6 +896,7 @@ impl Compiler<'_, '_> {
         ensures same { Same self.old self.new }
         ensures is { Scoped tree.now q self.old.rows.now self.new.rows.now k self.old.st self.new.st self.old.out.now self.new.out.now allowed result }
     {
+        // Kept: the place moves in a loop, which ends at another tag, and the place where it ends is given back (d).
         let mut p = q;
         let mut i = k;
         while tree[p] == 0x8C {

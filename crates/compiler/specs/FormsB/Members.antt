@@ -121,6 +121,10 @@ pub record ItemsGo (b : List ℕ) (q : ℕ) (s₀ : List ℕ) (k₀ : ℕ) (st�
   pub size : length d ≡ length d₀
   pub few : i + q ≤ p
 
+-- p is where the next one stands
+pub items-on : (b : List ℕ) (q : ℕ) (s₀ : List ℕ) (k₀ : ℕ) (st₀ : State) (d₀ : List ℕ) (n p i j : ℕ) (s : List ℕ) (st : State) (d : List ℕ) → n ≡ p → ItemsGo b q s₀ k₀ st₀ d₀ n i j s st d → ItemsGo b q s₀ k₀ st₀ d₀ p i j s st d
+items-on b q s₀ k₀ st₀ d₀ n p i j s st d e g = subst (λ (r : ℕ). ItemsGo b q s₀ k₀ st₀ d₀ r i j s st d) e g
+
 pub items-start : (b : List ℕ) (q : ℕ) (s : List ℕ) (k : ℕ) (st : State) (d : List ℕ) → Ready b s k (q + 3) (end_of b q) st → ((xs : Patterns) × Row b (f_patterns xs rnil) (q + 3) (end_of b q)) → end_of b q ≤ length b
     → ItemsGo b q s k st d (q + 3) 0 k s st d
 items-start b q s k st d y x f =
@@ -361,6 +365,10 @@ pub record KeyedGo (b : List ℕ) (q : ℕ) (s₀ : List ℕ) (k₀ : ℕ) (st�
   pub rows : 3 * j + (q + 3) ≤ 3 * k₀ + p
   pub paid : Paid (q + 3) p k₀ s₀ s st₀ st
   pub size : length d ≡ length d₀
+
+-- p is where the next one stands
+pub keyed-on : (b : List ℕ) (q : ℕ) (s₀ : List ℕ) (k₀ : ℕ) (st₀ : State) (d₀ : List ℕ) (n p j : ℕ) (s : List ℕ) (st : State) (d : List ℕ) → n ≡ p → KeyedGo b q s₀ k₀ st₀ d₀ n j s st d → KeyedGo b q s₀ k₀ st₀ d₀ p j s st d
+keyed-on b q s₀ k₀ st₀ d₀ n p j s st d e g = subst (λ (r : ℕ). KeyedGo b q s₀ k₀ st₀ d₀ r j s st d) e g
 
 pub keyed-start : (b : List ℕ) (q : ℕ) (s : List ℕ) (k : ℕ) (st : State) (d : List ℕ) → Ready b s k (q + 3) (end_of b q) st → ((xs : PatEntries) × Row b (f_pat_entries xs rnil) (q + 3) (end_of b q)) → end_of b q ≤ length b
     → KeyedGo b q s k st d (q + 3) k s st d

@@ -381,6 +381,10 @@ pub record Entering (b : List ℕ) (q z : ℕ) (s₀ : List ℕ) (k : ℕ) (st�
   pub same : length s ≡ length s₀
   pub room : length d ≡ length d₀
 
+-- p is where the next one stands
+pub entries-on : (b : List ℕ) (q z : ℕ) (s₀ : List ℕ) (k : ℕ) (st₀ : State) (d₀ : List ℕ) (n p i : ℕ) (s : List ℕ) (st : State) (d : List ℕ) → n ≡ p → Entering b q z s₀ k st₀ d₀ n i s st d → Entering b q z s₀ k st₀ d₀ p i s st d
+entries-on b q z s₀ k st₀ d₀ n p i s st d e g = subst (λ (r : ℕ). Entering b q z s₀ k st₀ d₀ r i s st d) e g
+
 pub entries-start : (b : List ℕ) (q z : ℕ) (s : List ℕ) (k : ℕ) (st : State) (d : List ℕ) → Ready b s k q z st → EntriesHere b q z → Entering b q z s k st d q k s st d
 entries-start b q z s k st d y g = record { goes = λ s' st' d' r f. f; low = omega arith; ready = y; here = g; same = refl; room = refl }
 

@@ -5,6 +5,7 @@ use mathlib.Core.Path.{◌≡◌, refl, sym, subst, ◌∙◌}
 use native.Mathlib.Omega.{arith}
 use mathlib.Core.Logic.{inl, inr}
 use Rattle.reads.specs.Kinds.{some-kind, no-kind, kind-is, no-projection}
+use Rattle.reads.specs.Places.{begun, turn, turned}
 use Rattle.reads.specs.Shapes.{tag-yes, tag-no}
 use lib.ListN.{length, get_or}
 use Rattle.tree.specs.Rose.{end_of}
@@ -62,9 +63,6 @@ args-note-requires t c = passing-note _ _ _ _ _ _ _ _ _ _ _ _ c.loop-i.invariant
 
 pub args-end_of-p-requires : goal.args-end_of-p-requires
 args-end_of-p-requires t c = passing-fits _ _ _ _ _ _ _ _ _ _ _ _ c.loop-i.invariant.1 c.loop-i-test.true
-
-pub args-loop-i-smaller : goal.args-loop-i-smaller
-args-loop-i-smaller t c = omega (arith, c.loop-i-test.true)
 
 pub args-loop-i-preserved : goal.args-loop-i-preserved
 args-loop-i-preserved t c = (record { rows = c.iterm.ensures.same.rows ∙ c.loop-i.invariant.0.rows; out = c.iterm.ensures.same.out ∙ c.loop-i.invariant.0.out }, passing-more _ _ _ _ _ _ _ _ _ _ _ _ c.loop-i.invariant.1 _ _ _ _ c.iterm.ensures.is c.loop-i-test.true _ refl _ c.note.ensures _ c.end_of-p.ensures)
@@ -418,45 +416,36 @@ entries-loop-p-init t c =
     let b = c.args.tree.now in
     let y = c.requires.0 in
     let g = c.requires.1 in
-    (record { rows = refl; out = refl }, forms_objects.entries-start b _ _ _ _ _ _ y g)
+    let i = begun b c.args.q c.args.z _ c.into_iter-p-iterator.result c.into_iter-p-iterator.ensures.into_iter_gives c.fields-p-items.ensures y.within (_, g.1) in
+    (i.0, i.1, record { rows = refl; out = refl }, forms_objects.entries-on _ _ _ _ _ _ _ _ _ _ _ _ _ i.2 (forms_objects.entries-start b _ _ _ _ _ _ y g))
 
 pub entries-obj_entry-requires : goal.entries-obj_entry-requires
 entries-obj_entry-requires t c =
     let b = c.args.tree.now in
-    let v = c.loop-p.invariant.1 in
-    let w = forms_objects.entries_next b _ _ _ _ _ _ _ _ _ _ _ v c.loop-p-test.true in
+    let n = turn c.loop-p.p-iterator c.next.new.self c.loop-p.invariant.1 c.in-Some.ensures.steps c.in-Some.ensures.goes.keeps in
+    let v = forms_objects.entries-on _ _ _ _ _ _ _ _ _ _ _ _ _ n.here c.loop-p.invariant.3 in
+    let w = forms_objects.entries_next b _ _ _ _ _ _ _ _ _ _ _ v n.within in
     (omega (arith, c.decreases, v.low, w.1.2.fits), (w.0, w.1))
-
-pub entries-end_of-p-requires : goal.entries-end_of-p-requires
-entries-end_of-p-requires t c =
-    let b = c.args.tree.now in
-    let v = c.loop-p.invariant.1 in
-    let w = forms_objects.entries_next b _ _ _ _ _ _ _ _ _ _ _ v c.loop-p-test.true in
-    w.1.2.fits
 
 pub entries-overflow_add-i : goal.entries-overflow_add-i
 entries-overflow_add-i t c =
-    let v = c.loop-p.invariant.1 in
+    let n = turn c.loop-p.p-iterator c.next.new.self c.loop-p.invariant.1 c.in-Some.ensures.steps c.in-Some.ensures.goes.keeps in
+    let v = forms_objects.entries-on _ _ _ _ _ _ _ _ _ _ _ _ _ n.here c.loop-p.invariant.3 in
     omega (arith, v.ready.seen.within, v.ready.seen.small)
-
-pub entries-loop-p-smaller : goal.entries-loop-p-smaller
-entries-loop-p-smaller t c =
-    let b = c.args.tree.now in
-    let v = c.loop-p.invariant.1 in
-    let w = forms_objects.entries_next b _ _ _ _ _ _ _ _ _ _ _ v c.loop-p-test.true in
-    omega (arith, c.end_of-p.ensures, w.1.2.fits)
 
 pub entries-loop-p-preserved : goal.entries-loop-p-preserved
 entries-loop-p-preserved t c =
     let b = c.args.tree.now in
-    let v = c.loop-p.invariant.1 in
-    (record { rows = c.obj_entry.ensures.same.rows ∙ c.loop-p.invariant.0.rows; out = c.obj_entry.ensures.same.out ∙ c.loop-p.invariant.0.out }, forms_objects.entries-again b _ _ _ _ _ _ _ _ _ _ _ _ _ _ _ v c.loop-p-test.true c.obj_entry.ensures.is c.end_of-p.ensures)
+    let n = turn c.loop-p.p-iterator c.next.new.self c.loop-p.invariant.1 c.in-Some.ensures.steps c.in-Some.ensures.goes.keeps in
+    let v = forms_objects.entries-on _ _ _ _ _ _ _ _ _ _ _ _ _ n.here c.loop-p.invariant.3 in
+    (c.in-Some.ensures.goes.keeps, n.over, record { rows = c.obj_entry.ensures.same.rows ∙ c.loop-p.invariant.2.rows; out = c.obj_entry.ensures.same.out ∙ c.loop-p.invariant.2.out }, forms_objects.entries-again b _ _ _ _ _ _ _ _ _ _ _ _ _ _ _ v n.within c.obj_entry.ensures.is n.next)
 
 pub entries-returns-clause-is : goal.entries-returns-clause-is
 entries-returns-clause-is t c =
+    let l = turned c.loop-p.p-iterator c.next.new.self c.loop-p.invariant.1 c.in-None.ensures.steps in
     let b = c.args.tree.now in
-    let v = c.loop-p.invariant.1 in
-    forms_objects.entries-done b _ _ _ _ _ _ _ _ _ _ _ v c.loop-p-test.false
+    let v = c.loop-p.invariant.3 in
+    forms_objects.entries-done b _ _ _ _ _ _ _ _ _ _ _ v l
 
 pub fold-fold_of-f-requires : goal.fold-fold_of-f-requires
 fold-fold_of-f-requires t c =
@@ -625,64 +614,62 @@ items-end_of-z-requires t c =
     let y = c.requires.0 in
     c.requires.2
 
-pub items-overflow_add-p : goal.items-overflow_add-p
-items-overflow_add-p t c =
+pub items-overflow_add-q : goal.items-overflow_add-q
+items-overflow_add-q t c =
     let y = c.requires.0 in
     omega (arith, y.order, y.within, y.small)
 
 pub items-loop-p-init : goal.items-loop-p-init
 items-loop-p-init t c =
+    let b = c.args.tree.now in
     let y = c.requires.0 in
-    (record { rows = refl; out = refl }, mems.items-start _ _ _ _ _ _ y c.requires.1 c.requires.2)
+    rw c.end_of-z.ensures (
+    let i = begun b (c.args.q + 3) (end_of b c.args.q) _ c.into_iter-p-iterator.result c.into_iter-p-iterator.ensures.into_iter_gives (rw c.end_of-z.ensures at c.fields-p-items.ensures) c.requires.2 (_, c.requires.1.1) in
+    (i.0, i.1, record { rows = refl; out = refl }, mems.items-on _ _ _ _ _ _ _ _ _ _ _ _ _ i.2 (mems.items-start _ _ _ _ _ _ y c.requires.1 c.requires.2))
+    )
 
 pub items-insert-requires : goal.items-insert-requires
 items-insert-requires t c =
     let y = c.requires.0 in
-    let g = c.loop-p.invariant.1 in
+    let n = turn c.loop-p.p-iterator c.next.new.self c.loop-p.invariant.1 c.in-Some.ensures.steps c.in-Some.ensures.goes.keeps in
+    let g = mems.items-on _ _ _ _ _ _ _ _ _ _ _ _ _ n.here c.loop-p.invariant.3 in
     (omega (arith, g.ready.nums), omega (arith, g.ready.offs))
 
 pub items-put_int-requires : goal.items-put_int-requires
 items-put_int-requires t c =
     let y = c.requires.0 in
-    let g = c.loop-p.invariant.1 in
+    let n = turn c.loop-p.p-iterator c.next.new.self c.loop-p.invariant.1 c.in-Some.ensures.steps c.in-Some.ensures.goes.keeps in
+    let g = mems.items-on _ _ _ _ _ _ _ _ _ _ _ _ _ n.here c.loop-p.invariant.3 in
     omega (arith, g.ready.offs, c.insert.ensures.0)
 
 pub items-pattern-j-requires : goal.items-pattern-j-requires
 items-pattern-j-requires t c =
     let y = c.requires.0 in
-    let g = c.loop-p.invariant.1 in
-    let a = asks_b.items-ask _ _ _ _ _ _ _ _ _ _ _ _ g _ c.end_of-z.ensures c.loop-p-test.true _ _ c.insert.ensures.0 c.insert.ensures.1 in
-    (omega (arith, c.decreases, g.few, g.ready.order, y.within, c.loop-p-test.true, c.end_of-z.ensures, g.rows, g.order), a)
-
-pub items-end_of-p-requires : goal.items-end_of-p-requires
-items-end_of-p-requires t c =
-    let y = c.requires.0 in
-    let g = c.loop-p.invariant.1 in
-    asks_b.items-fits _ _ _ _ _ _ _ _ _ _ _ _ g _ c.end_of-z.ensures c.loop-p-test.true
+    let n = turn c.loop-p.p-iterator c.next.new.self c.loop-p.invariant.1 c.in-Some.ensures.steps c.in-Some.ensures.goes.keeps in
+    let g = mems.items-on _ _ _ _ _ _ _ _ _ _ _ _ _ n.here c.loop-p.invariant.3 in
+    let a = asks_b.items-ask _ _ _ _ _ _ _ _ _ _ _ _ g _ c.end_of-z.ensures n.within _ _ c.insert.ensures.0 c.insert.ensures.1 in
+    (omega (arith, c.decreases, g.few, g.ready.order, y.within, n.within, c.end_of-z.ensures, g.rows, g.order), a)
 
 pub items-overflow_add-i : goal.items-overflow_add-i
 items-overflow_add-i t c =
     let y = c.requires.0 in
-    let g = c.loop-p.invariant.1 in
+    let n = turn c.loop-p.p-iterator c.next.new.self c.loop-p.invariant.1 c.in-Some.ensures.steps c.in-Some.ensures.goes.keeps in
+    let g = mems.items-on _ _ _ _ _ _ _ _ _ _ _ _ _ n.here c.loop-p.invariant.3 in
     omega (arith, g.few, g.ready.order, y.within, y.small)
-
-pub items-loop-p-smaller : goal.items-loop-p-smaller
-items-loop-p-smaller t c =
-    let y = c.requires.0 in
-    let g = c.loop-p.invariant.1 in
-    omega (arith, c.end_of-p.ensures, asks_b.items-fits _ _ _ _ _ _ _ _ _ _ _ _ g _ c.end_of-z.ensures c.loop-p-test.true)
 
 pub items-loop-p-preserved : goal.items-loop-p-preserved
 items-loop-p-preserved t c =
     let y = c.requires.0 in
-    let g = c.loop-p.invariant.1 in
-    (record { rows = c.pattern-j.ensures.same.rows ∙ c.loop-p.invariant.0.rows; out = c.pattern-j.ensures.same.out ∙ c.loop-p.invariant.0.out }, asks_b.items-again _ _ _ _ _ _ _ _ _ _ _ _ g _ c.end_of-z.ensures c.loop-p-test.true _ _ _ _ _ _ _ _ _ refl c.insert.ensures.0 c.insert.ensures.1 c.put_int.ensures c.pattern-j.ensures.is c.end_of-p.ensures)
+    let n = turn c.loop-p.p-iterator c.next.new.self c.loop-p.invariant.1 c.in-Some.ensures.steps c.in-Some.ensures.goes.keeps in
+    let g = mems.items-on _ _ _ _ _ _ _ _ _ _ _ _ _ n.here c.loop-p.invariant.3 in
+    (c.in-Some.ensures.goes.keeps, n.over, record { rows = c.pattern-j.ensures.same.rows ∙ c.loop-p.invariant.2.rows; out = c.pattern-j.ensures.same.out ∙ c.loop-p.invariant.2.out }, asks_b.items-again _ _ _ _ _ _ _ _ _ _ _ _ g _ c.end_of-z.ensures n.within _ _ _ _ _ _ _ _ _ refl c.insert.ensures.0 c.insert.ensures.1 c.put_int.ensures c.pattern-j.ensures.is n.next)
 
 pub items-returns-clause-is : goal.items-returns-clause-is
 items-returns-clause-is t c =
+    let l = turned c.loop-p.p-iterator c.next.new.self c.loop-p.invariant.1 c.in-None.ensures.steps in
     let y = c.requires.0 in
-    let g = c.loop-p.invariant.1 in
-    mems.items-done _ _ _ _ _ _ _ _ _ _ _ _ g (omega (arith, c.loop-p-test.false, c.end_of-z.ensures))
+    let g = c.loop-p.invariant.3 in
+    mems.items-done _ _ _ _ _ _ _ _ _ _ _ _ g (omega (arith, l, c.end_of-z.ensures))
 
 pub iterm-overflow_add-self : goal.iterm-overflow_add-self
 iterm-overflow_add-self t c =
@@ -761,73 +748,71 @@ keyed-end_of-z-requires t c =
     let y = c.requires.0 in
     c.requires.2
 
-pub keyed-overflow_add-p : goal.keyed-overflow_add-p
-keyed-overflow_add-p t c =
+pub keyed-overflow_add-q : goal.keyed-overflow_add-q
+keyed-overflow_add-q t c =
     let y = c.requires.0 in
     omega (arith, y.order, y.within, y.small)
 
 pub keyed-loop-p-init : goal.keyed-loop-p-init
 keyed-loop-p-init t c =
+    let b = c.args.tree.now in
     let y = c.requires.0 in
-    (record { rows = refl; out = refl }, mems.keyed-start _ _ _ _ _ _ y c.requires.1 c.requires.2)
+    rw c.end_of-z.ensures (
+    let i = begun b (c.args.q + 3) (end_of b c.args.q) _ c.into_iter-p-iterator.result c.into_iter-p-iterator.ensures.into_iter_gives (rw c.end_of-z.ensures at c.fields-p-items.ensures) c.requires.2 (_, c.requires.1.1) in
+    (i.0, i.1, record { rows = refl; out = refl }, mems.keyed-on _ _ _ _ _ _ _ _ _ _ _ _ i.2 (mems.keyed-start _ _ _ _ _ _ y c.requires.1 c.requires.2))
+    )
 
-pub keyed-overflow_add-p-in-loop-p : goal.keyed-overflow_add-p-in-loop-p
-keyed-overflow_add-p-in-loop-p t c =
+pub keyed-overflow_add-p : goal.keyed-overflow_add-p
+keyed-overflow_add-p t c =
     let y = c.requires.0 in
-    let g = c.loop-p.invariant.1 in
+    let n = turn c.loop-p.p-iterator c.next.new.self c.loop-p.invariant.1 c.in-Some.ensures.steps c.in-Some.ensures.goes.keeps in
+    let g = mems.keyed-on _ _ _ _ _ _ _ _ _ _ _ _ n.here c.loop-p.invariant.3 in
     omega (arith, g.ready.order, y.within, y.small)
 
 pub keyed-iterm-requires : goal.keyed-iterm-requires
 keyed-iterm-requires t c =
     let y = c.requires.0 in
-    let g = c.loop-p.invariant.1 in
-    let a = asks_b.keyed-ask _ _ _ _ _ _ _ _ _ _ _ g _ c.end_of-z.ensures c.loop-p-test.true in
-    let z = asks_b.keyed-ends _ _ _ _ _ _ _ _ _ _ _ g _ c.end_of-z.ensures c.loop-p-test.true in
+    let n = turn c.loop-p.p-iterator c.next.new.self c.loop-p.invariant.1 c.in-Some.ensures.steps c.in-Some.ensures.goes.keeps in
+    let g = mems.keyed-on _ _ _ _ _ _ _ _ _ _ _ _ n.here c.loop-p.invariant.3 in
+    let a = asks_b.keyed-ask _ _ _ _ _ _ _ _ _ _ _ g _ c.end_of-z.ensures n.within in
+    let z = asks_b.keyed-ends _ _ _ _ _ _ _ _ _ _ _ g _ c.end_of-z.ensures n.within in
     (omega (arith, c.decreases, z.1, z.2, g.rows, g.order), (a.0, a.1))
 
-pub keyed-overflow_add-p-in-loop-p-2 : goal.keyed-overflow_add-p-in-loop-p-2
-keyed-overflow_add-p-in-loop-p-2 t c =
+pub keyed-overflow_add-p-in-loop-p : goal.keyed-overflow_add-p-in-loop-p
+keyed-overflow_add-p-in-loop-p t c =
     let y = c.requires.0 in
-    let g = c.loop-p.invariant.1 in
+    let n = turn c.loop-p.p-iterator c.next.new.self c.loop-p.invariant.1 c.in-Some.ensures.steps c.in-Some.ensures.goes.keeps in
+    let g = mems.keyed-on _ _ _ _ _ _ _ _ _ _ _ _ n.here c.loop-p.invariant.3 in
     omega (arith, g.ready.order, y.within, y.small)
 
 pub keyed-end_of-requires : goal.keyed-end_of-requires
 keyed-end_of-requires t c =
     let y = c.requires.0 in
-    let g = c.loop-p.invariant.1 in
-    (asks_b.keyed-ends _ _ _ _ _ _ _ _ _ _ _ g _ c.end_of-z.ensures c.loop-p-test.true).0
+    let n = turn c.loop-p.p-iterator c.next.new.self c.loop-p.invariant.1 c.in-Some.ensures.steps c.in-Some.ensures.goes.keeps in
+    let g = mems.keyed-on _ _ _ _ _ _ _ _ _ _ _ _ n.here c.loop-p.invariant.3 in
+    (asks_b.keyed-ends _ _ _ _ _ _ _ _ _ _ _ g _ c.end_of-z.ensures n.within).0
 
 pub keyed-pattern-j-requires : goal.keyed-pattern-j-requires
 keyed-pattern-j-requires t c =
     let y = c.requires.0 in
-    let g = c.loop-p.invariant.1 in
-    let z = asks_b.keyed-ends _ _ _ _ _ _ _ _ _ _ _ g _ c.end_of-z.ensures c.loop-p-test.true in
-    (omega (arith, c.decreases, z.1, z.2, g.rows, g.order, c.end_of.ensures), asks_b.keyed-ask-pattern _ _ _ _ _ _ _ _ _ _ _ g _ c.end_of-z.ensures c.loop-p-test.true _ _ _ _ _ c.iterm.ensures.is c.end_of.ensures)
-
-pub keyed-end_of-p-requires : goal.keyed-end_of-p-requires
-keyed-end_of-p-requires t c =
-    let y = c.requires.0 in
-    let g = c.loop-p.invariant.1 in
-    (asks_b.keyed-ends _ _ _ _ _ _ _ _ _ _ _ g _ c.end_of-z.ensures c.loop-p-test.true).1
-
-pub keyed-loop-p-smaller : goal.keyed-loop-p-smaller
-keyed-loop-p-smaller t c =
-    let y = c.requires.0 in
-    let g = c.loop-p.invariant.1 in
-    let z = asks_b.keyed-ends _ _ _ _ _ _ _ _ _ _ _ g _ c.end_of-z.ensures c.loop-p-test.true in
-    omega (arith, c.end_of-p.ensures, z.1, z.2)
+    let n = turn c.loop-p.p-iterator c.next.new.self c.loop-p.invariant.1 c.in-Some.ensures.steps c.in-Some.ensures.goes.keeps in
+    let g = mems.keyed-on _ _ _ _ _ _ _ _ _ _ _ _ n.here c.loop-p.invariant.3 in
+    let z = asks_b.keyed-ends _ _ _ _ _ _ _ _ _ _ _ g _ c.end_of-z.ensures n.within in
+    (omega (arith, c.decreases, z.1, z.2, g.rows, g.order, c.end_of.ensures), asks_b.keyed-ask-pattern _ _ _ _ _ _ _ _ _ _ _ g _ c.end_of-z.ensures n.within _ _ _ _ _ c.iterm.ensures.is c.end_of.ensures)
 
 pub keyed-loop-p-preserved : goal.keyed-loop-p-preserved
 keyed-loop-p-preserved t c =
     let y = c.requires.0 in
-    let g = c.loop-p.invariant.1 in
-    (record { rows = c.pattern-j.ensures.same.rows ∙ c.iterm.ensures.same.rows ∙ c.loop-p.invariant.0.rows; out = c.pattern-j.ensures.same.out ∙ c.iterm.ensures.same.out ∙ c.loop-p.invariant.0.out }, asks_b.keyed-again _ _ _ _ _ _ _ _ _ _ _ g _ c.end_of-z.ensures c.loop-p-test.true _ _ _ _ _ c.iterm.ensures.is c.end_of.ensures _ _ _ _ _ _ refl c.pattern-j.ensures.is c.end_of-p.ensures)
+    let n = turn c.loop-p.p-iterator c.next.new.self c.loop-p.invariant.1 c.in-Some.ensures.steps c.in-Some.ensures.goes.keeps in
+    let g = mems.keyed-on _ _ _ _ _ _ _ _ _ _ _ _ n.here c.loop-p.invariant.3 in
+    (c.in-Some.ensures.goes.keeps, n.over, record { rows = c.pattern-j.ensures.same.rows ∙ c.iterm.ensures.same.rows ∙ c.loop-p.invariant.2.rows; out = c.pattern-j.ensures.same.out ∙ c.iterm.ensures.same.out ∙ c.loop-p.invariant.2.out }, asks_b.keyed-again _ _ _ _ _ _ _ _ _ _ _ g _ c.end_of-z.ensures n.within _ _ _ _ _ c.iterm.ensures.is c.end_of.ensures _ _ _ _ _ _ refl c.pattern-j.ensures.is n.next)
 
 pub keyed-returns-clause-is : goal.keyed-returns-clause-is
 keyed-returns-clause-is t c =
+    let l = turned c.loop-p.p-iterator c.next.new.self c.loop-p.invariant.1 c.in-None.ensures.steps in
     let y = c.requires.0 in
-    let g = c.loop-p.invariant.1 in
-    mems.keyed-done _ _ _ _ _ _ _ _ _ _ _ g (omega (arith, c.loop-p-test.false, c.end_of-z.ensures))
+    let g = c.loop-p.invariant.3 in
+    mems.keyed-done _ _ _ _ _ _ _ _ _ _ _ g (omega (arith, l, c.end_of-z.ensures))
 
 pub label-reserve-requires : goal.label-reserve-requires
 label-reserve-requires t c =
@@ -1634,45 +1619,36 @@ parts-loop-p-init t c =
     let b = c.args.tree.now in
     let y = c.requires.0 in
     let g = c.requires.1 in
-    (record { rows = refl; out = refl }, forms_paths.parts-start b _ _ _ _ _ _ y g)
+    let i = begun b c.args.q c.args.z _ c.into_iter-p-iterator.result c.into_iter-p-iterator.ensures.into_iter_gives c.fields-p-items.ensures y.within (_, g.1) in
+    (i.0, i.1, record { rows = refl; out = refl }, forms_paths.parts-on _ _ _ _ _ _ _ _ _ _ _ _ _ i.2 (forms_paths.parts-start b _ _ _ _ _ _ y g))
 
 pub parts-part-requires : goal.parts-part-requires
 parts-part-requires t c =
     let b = c.args.tree.now in
-    let v = c.loop-p.invariant.1 in
-    let w = forms_paths.parts_next b _ _ _ _ _ _ _ _ _ _ _ v c.loop-p-test.true in
+    let n = turn c.loop-p.p-iterator c.next.new.self c.loop-p.invariant.1 c.in-Some.ensures.steps c.in-Some.ensures.goes.keeps in
+    let v = forms_paths.parts-on _ _ _ _ _ _ _ _ _ _ _ _ _ n.here c.loop-p.invariant.3 in
+    let w = forms_paths.parts_next b _ _ _ _ _ _ _ _ _ _ _ v n.within in
     (omega (arith, c.decreases, v.low, w.2), (w.0, w.1))
-
-pub parts-end_of-p-requires : goal.parts-end_of-p-requires
-parts-end_of-p-requires t c =
-    let b = c.args.tree.now in
-    let v = c.loop-p.invariant.1 in
-    let w = forms_paths.parts_next b _ _ _ _ _ _ _ _ _ _ _ v c.loop-p-test.true in
-    w.2
 
 pub parts-overflow_add-i : goal.parts-overflow_add-i
 parts-overflow_add-i t c =
-    let v = c.loop-p.invariant.1 in
+    let n = turn c.loop-p.p-iterator c.next.new.self c.loop-p.invariant.1 c.in-Some.ensures.steps c.in-Some.ensures.goes.keeps in
+    let v = forms_paths.parts-on _ _ _ _ _ _ _ _ _ _ _ _ _ n.here c.loop-p.invariant.3 in
     omega (arith, v.ready.seen.within, v.ready.seen.small)
-
-pub parts-loop-p-smaller : goal.parts-loop-p-smaller
-parts-loop-p-smaller t c =
-    let b = c.args.tree.now in
-    let v = c.loop-p.invariant.1 in
-    let w = forms_paths.parts_next b _ _ _ _ _ _ _ _ _ _ _ v c.loop-p-test.true in
-    omega (arith, c.end_of-p.ensures, w.2)
 
 pub parts-loop-p-preserved : goal.parts-loop-p-preserved
 parts-loop-p-preserved t c =
     let b = c.args.tree.now in
-    let v = c.loop-p.invariant.1 in
-    (record { rows = c.part.ensures.same.rows ∙ c.loop-p.invariant.0.rows; out = c.part.ensures.same.out ∙ c.loop-p.invariant.0.out }, forms_paths.parts_again b _ _ _ _ _ _ _ _ _ _ _ _ _ _ _ v c.loop-p-test.true c.part.ensures.is c.end_of-p.ensures)
+    let n = turn c.loop-p.p-iterator c.next.new.self c.loop-p.invariant.1 c.in-Some.ensures.steps c.in-Some.ensures.goes.keeps in
+    let v = forms_paths.parts-on _ _ _ _ _ _ _ _ _ _ _ _ _ n.here c.loop-p.invariant.3 in
+    (c.in-Some.ensures.goes.keeps, n.over, record { rows = c.part.ensures.same.rows ∙ c.loop-p.invariant.2.rows; out = c.part.ensures.same.out ∙ c.loop-p.invariant.2.out }, forms_paths.parts_again b _ _ _ _ _ _ _ _ _ _ _ _ _ _ _ v n.within c.part.ensures.is n.next)
 
 pub parts-returns-clause-is : goal.parts-returns-clause-is
 parts-returns-clause-is t c =
+    let l = turned c.loop-p.p-iterator c.next.new.self c.loop-p.invariant.1 c.in-None.ensures.steps in
     let b = c.args.tree.now in
-    let v = c.loop-p.invariant.1 in
-    forms_paths.parts-done b _ _ _ _ _ _ _ _ _ _ _ v c.loop-p-test.false
+    let v = c.loop-p.invariant.3 in
+    forms_paths.parts-done b _ _ _ _ _ _ _ _ _ _ _ v l
 
 pub path-end_of-z-requires : goal.path-end_of-z-requires
 path-end_of-z-requires t c =
@@ -2185,55 +2161,45 @@ strings-loop-p-init t c =
     let b = c.args.tree.now in
     let y = c.requires.0 in
     let g = c.requires.1 in
-    (record { rows = refl; out = refl }, forms_strings.strings-start b _ _ _ _ _ _ y g)
+    let i = begun b c.args.q c.args.z _ c.into_iter-p-iterator.result c.into_iter-p-iterator.ensures.into_iter_gives c.fields-p-items.ensures y.within (_, g.1) in
+    (i.0, i.1, record { rows = refl; out = refl }, forms_strings.strings-on _ _ _ _ _ _ _ _ _ _ _ _ _ i.2 (forms_strings.strings-start b _ _ _ _ _ _ y g))
 
 pub strings-string-requires : goal.strings-string-requires
 strings-string-requires t c =
     let b = c.args.tree.now in
-    let v = c.loop-p.invariant.1 in
-    let w = forms_strings.strings-next b _ _ _ _ _ _ _ _ _ _ _ v c.loop-p-test.true in
+    let n = turn c.loop-p.p-iterator c.next.new.self c.loop-p.invariant.1 c.in-Some.ensures.steps c.in-Some.ensures.goes.keeps in
+    let v = forms_strings.strings-on _ _ _ _ _ _ _ _ _ _ _ _ _ n.here c.loop-p.invariant.3 in
+    let w = forms_strings.strings-next b _ _ _ _ _ _ _ _ _ _ _ v n.within in
     let fits = forms_strings.string-fits b _ w.1 in
     (omega (arith, c.decreases, v.low, fits), (w.0, w.1))
 
 pub strings-note-requires : goal.strings-note-requires
 strings-note-requires t c =
     let b = c.args.tree.now in
-    let v = c.loop-p.invariant.1 in
-    let w = forms_strings.strings-next b _ _ _ _ _ _ _ _ _ _ _ v c.loop-p-test.true in
+    let n = turn c.loop-p.p-iterator c.next.new.self c.loop-p.invariant.1 c.in-Some.ensures.steps c.in-Some.ensures.goes.keeps in
+    let v = forms_strings.strings-on _ _ _ _ _ _ _ _ _ _ _ _ _ n.here c.loop-p.invariant.3 in
+    let w = forms_strings.strings-next b _ _ _ _ _ _ _ _ _ _ _ v n.within in
     (omega (arith, noting.note-room b _ _ _ _ _ w.0 (omega arith), c.string.ensures.is.paid.same), noting.note-few b _ _ _ _ _ w.0 (omega arith), omega arith)
-
-pub strings-end_of-p-requires : goal.strings-end_of-p-requires
-strings-end_of-p-requires t c =
-    let b = c.args.tree.now in
-    let v = c.loop-p.invariant.1 in
-    let w = forms_strings.strings-next b _ _ _ _ _ _ _ _ _ _ _ v c.loop-p-test.true in
-    let fits = forms_strings.string-fits b _ w.1 in
-    fits
 
 pub strings-overflow_add-i : goal.strings-overflow_add-i
 strings-overflow_add-i t c =
-    let v = c.loop-p.invariant.1 in
+    let n = turn c.loop-p.p-iterator c.next.new.self c.loop-p.invariant.1 c.in-Some.ensures.steps c.in-Some.ensures.goes.keeps in
+    let v = forms_strings.strings-on _ _ _ _ _ _ _ _ _ _ _ _ _ n.here c.loop-p.invariant.3 in
     omega (arith, v.ready.seen.within, v.ready.seen.small)
-
-pub strings-loop-p-smaller : goal.strings-loop-p-smaller
-strings-loop-p-smaller t c =
-    let b = c.args.tree.now in
-    let v = c.loop-p.invariant.1 in
-    let w = forms_strings.strings-next b _ _ _ _ _ _ _ _ _ _ _ v c.loop-p-test.true in
-    let fits = forms_strings.string-fits b _ w.1 in
-    omega (arith, c.end_of-p.ensures, fits)
 
 pub strings-loop-p-preserved : goal.strings-loop-p-preserved
 strings-loop-p-preserved t c =
     let b = c.args.tree.now in
-    let v = c.loop-p.invariant.1 in
-    (record { rows = c.string.ensures.same.rows ∙ c.loop-p.invariant.0.rows; out = c.string.ensures.same.out ∙ c.loop-p.invariant.0.out }, forms_strings.strings-again b _ _ _ _ _ _ _ _ _ _ _ _ _ _ _ _ _ v c.loop-p-test.true refl c.string.ensures.is c.note.ensures c.end_of-p.ensures)
+    let n = turn c.loop-p.p-iterator c.next.new.self c.loop-p.invariant.1 c.in-Some.ensures.steps c.in-Some.ensures.goes.keeps in
+    let v = forms_strings.strings-on _ _ _ _ _ _ _ _ _ _ _ _ _ n.here c.loop-p.invariant.3 in
+    (c.in-Some.ensures.goes.keeps, n.over, record { rows = c.string.ensures.same.rows ∙ c.loop-p.invariant.2.rows; out = c.string.ensures.same.out ∙ c.loop-p.invariant.2.out }, forms_strings.strings-again b _ _ _ _ _ _ _ _ _ _ _ _ _ _ _ _ _ v n.within refl c.string.ensures.is c.note.ensures n.next)
 
 pub strings-returns-clause-is : goal.strings-returns-clause-is
 strings-returns-clause-is t c =
+    let l = turned c.loop-p.p-iterator c.next.new.self c.loop-p.invariant.1 c.in-None.ensures.steps in
     let b = c.args.tree.now in
-    let v = c.loop-p.invariant.1 in
-    forms_strings.strings-done b _ _ _ _ _ _ _ _ _ _ _ v c.loop-p-test.false
+    let v = c.loop-p.invariant.3 in
+    forms_strings.strings-done b _ _ _ _ _ _ _ _ _ _ _ v l
 
 pub term-bounds-tree-p : goal.term-bounds-tree-p
 term-bounds-tree-p t c =

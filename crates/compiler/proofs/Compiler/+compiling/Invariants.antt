@@ -1,4 +1,5 @@
 use Prim.Native.Nat.{◌+◌, ◌-◌, ◌*◌}
+use Rattle.reads.specs.Places.{Over}
 use Rattle.compiler.specs.Same.{Same}
 use Rattle.compiler.specs.FormsD.Args.{Passing}
 use lib.ListN.{length}
@@ -129,9 +130,6 @@ decreases-update l = 16 * (length l.tree.now - l.p) + 1
 abbrev pub invariant-args-loop-i : goal.invariant-args-loop-i
 invariant-args-loop-i l = Same l.initial.self l.self × Passing l.tree l.q l.a l.initial.self.rows.now l.k l.initial.self.st l.initial.self.out.now l.p l.i l.self.rows.now l.self.st l.self.out.now
 
-abbrev pub decreases-args-loop-i : goal.decreases-args-loop-i
-decreases-args-loop-i l = l.a - l.i
-
 abbrev pub invariant-defs-loop-p : goal.invariant-defs-loop-p
 invariant-defs-loop-p l = Same l.initial.self l.self × Scoping l.tree l.q l.initial.self.rows.now l.k l.initial.self.st l.initial.self.out.now l.allowed l.p l.i l.self.rows.now l.self.st l.self.out.now
 
@@ -139,22 +137,13 @@ abbrev pub decreases-defs-loop-p : goal.decreases-defs-loop-p
 decreases-defs-loop-p l = length l.tree - l.p
 
 abbrev pub invariant-entries-loop-p : goal.invariant-entries-loop-p
-invariant-entries-loop-p l = Same l.initial.self l.self × forms_objects.Entering l.tree l.q l.z l.initial.self.rows.now l.k l.initial.self.st l.initial.self.out.now l.p l.i l.self.rows.now l.self.st l.self.out.now
-
-abbrev pub decreases-entries-loop-p : goal.decreases-entries-loop-p
-decreases-entries-loop-p l = length l.tree - l.p
+invariant-entries-loop-p l = (goal.iterator-entries-loop-p).can_next l.p-iterator × Over l.tree l.z l.p-iterator × Same l.initial.self l.self × forms_objects.Entering l.tree l.q l.z l.initial.self.rows.now l.k l.initial.self.st l.initial.self.out.now l.p-iterator.at l.i l.self.rows.now l.self.st l.self.out.now
 
 abbrev pub invariant-items-loop-p : goal.invariant-items-loop-p
-invariant-items-loop-p l = Same l.initial.self l.self × mems.ItemsGo l.tree l.q l.initial.self.rows.now l.k l.initial.self.st l.initial.self.out.now l.p l.i l.j l.self.rows.now l.self.st l.self.out.now
-
-abbrev pub decreases-items-loop-p : goal.decreases-items-loop-p
-decreases-items-loop-p l = length l.tree - l.p
+invariant-items-loop-p l = (goal.iterator-items-loop-p).can_next l.p-iterator × Over l.tree l.z l.p-iterator × Same l.initial.self l.self × mems.ItemsGo l.tree l.q l.initial.self.rows.now l.k l.initial.self.st l.initial.self.out.now l.p-iterator.at l.i l.j l.self.rows.now l.self.st l.self.out.now
 
 abbrev pub invariant-keyed-loop-p : goal.invariant-keyed-loop-p
-invariant-keyed-loop-p l = Same l.initial.self l.self × mems.KeyedGo l.tree l.q l.initial.self.rows.now l.k l.initial.self.st l.initial.self.out.now l.p l.j l.self.rows.now l.self.st l.self.out.now
-
-abbrev pub decreases-keyed-loop-p : goal.decreases-keyed-loop-p
-decreases-keyed-loop-p l = length l.tree - l.p
+invariant-keyed-loop-p l = (goal.iterator-keyed-loop-p).can_next l.p-iterator × Over l.tree l.z l.p-iterator × Same l.initial.self l.self × mems.KeyedGo l.tree l.q l.initial.self.rows.now l.k l.initial.self.st l.initial.self.out.now l.p-iterator.at l.j l.self.rows.now l.self.st l.self.out.now
 
 abbrev pub invariant-pairs-loop-a : goal.invariant-pairs-loop-a
 invariant-pairs-loop-a l = Same l.initial.self l.self × Pairing l.tree l.q l.z l.initial.self.rows.now l.k l.initial.self.st l.initial.self.out.now l.allowed l.p l.i l.t l.self.rows.now l.self.st l.self.out.now
@@ -163,13 +152,7 @@ abbrev pub decreases-pairs-loop-a : goal.decreases-pairs-loop-a
 decreases-pairs-loop-a l = length l.tree - l.p
 
 abbrev pub invariant-parts-loop-p : goal.invariant-parts-loop-p
-invariant-parts-loop-p l = Same l.initial.self l.self × forms_paths.Parting l.tree l.q l.z l.initial.self.rows.now l.k l.initial.self.st l.initial.self.out.now l.p l.i l.self.rows.now l.self.st l.self.out.now
-
-abbrev pub decreases-parts-loop-p : goal.decreases-parts-loop-p
-decreases-parts-loop-p l = length l.tree - l.p
+invariant-parts-loop-p l = (goal.iterator-parts-loop-p).can_next l.p-iterator × Over l.tree l.z l.p-iterator × Same l.initial.self l.self × forms_paths.Parting l.tree l.q l.z l.initial.self.rows.now l.k l.initial.self.st l.initial.self.out.now l.p-iterator.at l.i l.self.rows.now l.self.st l.self.out.now
 
 abbrev pub invariant-strings-loop-p : goal.invariant-strings-loop-p
-invariant-strings-loop-p l = Same l.initial.self l.self × forms_strings.Stringing l.tree l.q l.z l.initial.self.rows.now l.k l.initial.self.st l.initial.self.out.now l.p l.i l.self.rows.now l.self.st l.self.out.now
-
-abbrev pub decreases-strings-loop-p : goal.decreases-strings-loop-p
-decreases-strings-loop-p l = length l.tree - l.p
+invariant-strings-loop-p l = (goal.iterator-strings-loop-p).can_next l.p-iterator × Over l.tree l.z l.p-iterator × Same l.initial.self l.self × forms_strings.Stringing l.tree l.q l.z l.initial.self.rows.now l.k l.initial.self.st l.initial.self.out.now l.p-iterator.at l.i l.self.rows.now l.self.st l.self.out.now
