@@ -2,3 +2,4 @@ pub mod State
 pub mod Runs
 pub mod Rooms
 pub mod Calls
+pub mod Pairs

@@ -1,9 +1,10 @@
 // Records: each is put as far as there is room. Over an empty room nothing is written.
-ghost use Rattle.std.specs.Prelude.{◌≡◌, [], ◌∷◌, ◌++◌, ◌+◌, ◌<◌, ◌^◌, length, set};
+ghost use Rattle.std.specs.Prelude.{◌≡◌, [], ◌∷◌, ◌++◌, ◌+◌, ◌*◌, ◌<◌, ◌^◌, length, set};
 ghost use Rattle.fields.specs.Number.{number};
 ghost use Rattle.fields.specs.Field.{field};
 ghost use Rattle.fields.specs.Room.{overlay};
 ghost use Rattle.text.specs.Utf8.{utf8};
+ghost use Rattle.puts.specs.Pairs.{pairs};
 
 pub fn put1(out: &mut [u8], o: usize, b: u8)
     ensures { out.new ≡ set out.old o b }
@@ -34,18 +35,42 @@ fn put3(out: &mut [u8], o: usize, a: u8, b: u8, c: u8)
     put1(out, o + 2, c);
 }
 
+// A record of numbers. Where there is room for all of it each byte is stored at once.
+fn put_numbers<const N: usize>(out: &mut [u8], o: usize, tag: u8, numbers: [usize; N])
+    requires { (o + 3 + 2 * N < 2 ^ 64) × (2 * N < 65536) }
+    ensures { out.new ≡ overlay out.old o (field tag (pairs numbers.entry)) }
+{
+    if out.len() < o + 3 + 2 * N {
+        put_cut(out, o, tag, numbers);
+        return;
+    }
+    out[o] = tag;
+    out[o + 1] = (2 * N % 256) as u8;
+    out[o + 2] = (2 * N / 256 % 256) as u8;
+    for i in 0..N {
+        out[o + 3 + 2 * i] = (numbers[i] % 256) as u8;
+        out[o + 4 + 2 * i] = (numbers[i] / 256 % 256) as u8;
+    }
+}
+
+// The same, as far as there is room.
+fn put_cut<const N: usize>(out: &mut [u8], o: usize, tag: u8, numbers: [usize; N])
+    requires { (o + 3 + 2 * N < 2 ^ 64) × (2 * N < 65536) }
+    ensures { out.new ≡ overlay out.old o (field tag (pairs numbers.entry)) }
+{
+    put1(out, o, tag);
+    put_number(out, o + 1, 2 * N);
+    for i in 0..N {
+        put_number(out, o + 3 + 2 * i, numbers[i]);
+    }
+}
+
 // A record without members.
 pub fn put_bare(out: &mut [u8], o: usize, tag: u8)
     requires { o + 3 < 2 ^ 64 }
     ensures { out.new ≡ overlay out.old o (field tag []) }
 {
-    if o + 3 <= out.len() {
-        out[o] = tag;
-        out[o + 1] = 0;
-        out[o + 2] = 0;
-        return;
-    }
-    put3(out, o, tag, 0, 0);
+    put_numbers(out, o, tag, []);
 }
 
 // A record of one number.
@@ -53,18 +78,7 @@ pub fn put_one(out: &mut [u8], o: usize, tag: u8, a: usize)
     requires { o + 5 < 2 ^ 64 }
     ensures { out.new ≡ overlay out.old o (field tag (number 2 a)) }
 {
-    if o + 5 <= out.len() {
-        out[o] = tag;
-        out[o + 1] = 2;
-        out[o + 2] = 0;
-        out[o + 3] = (a % 256) as u8;
-        out[o + 4] = (a / 256 % 256) as u8;
-        return;
-    }
-    if o < out.len() {
-        put3(out, o, tag, 2, 0);
-        put_number(out, o + 3, a);
-    }
+    put_numbers(out, o, tag, [a]);
 }
 
 // A record of two numbers.
@@ -72,21 +86,7 @@ pub fn put_two(out: &mut [u8], o: usize, tag: u8, a: usize, b: usize)
     requires { o + 7 < 2 ^ 64 }
     ensures { out.new ≡ overlay out.old o (field tag (number 2 a ++ number 2 b)) }
 {
-    if o + 7 <= out.len() {
-        out[o] = tag;
-        out[o + 1] = 4;
-        out[o + 2] = 0;
-        out[o + 3] = (a % 256) as u8;
-        out[o + 4] = (a / 256 % 256) as u8;
-        out[o + 5] = (b % 256) as u8;
-        out[o + 6] = (b / 256 % 256) as u8;
-        return;
-    }
-    if o < out.len() {
-        put3(out, o, tag, 4, 0);
-        put_number(out, o + 3, a);
-        put_number(out, o + 5, b);
-    }
+    put_numbers(out, o, tag, [a, b]);
 }
 
 // A record of two numbers and a byte between them.
@@ -118,9 +118,7 @@ pub fn put_three(out: &mut [u8], o: usize, tag: u8, a: usize, b: usize, c: usize
     requires { o + 9 < 2 ^ 64 }
     ensures { out.new ≡ overlay out.old o (field tag (number 2 a ++ (number 2 b ++ number 2 c))) }
 {
-    put_head(out, o, tag, 6, a);
-    put_number(out, o + 5, b);
-    put_number(out, o + 7, c);
+    put_numbers(out, o, tag, [a, b, c]);
 }
 
 // The tag, the length and the first number of a record.
@@ -186,9 +184,7 @@ pub fn put_error(errs: &mut [u8], e: usize, tag: u8, home: usize, at: usize, len
     requires { e + 9 < 2 ^ 64 }
     ensures { errs.new ≡ overlay errs.old e (field tag (number 2 home ++ (number 2 at ++ number 2 len))) }
 {
-    put_head(errs, e, tag, 6, home);
-    put_number(errs, e + 5, at);
-    put_number(errs, e + 7, len);
+    put_numbers(errs, e, tag, [home, at, len]);
 }
 
 // A Filter error: also the arity.
@@ -196,8 +192,5 @@ pub fn put_filter_error(errs: &mut [u8], e: usize, home: usize, at: usize, len: 
     requires { e + 11 < 2 ^ 64 }
     ensures { errs.new ≡ overlay errs.old e (field 0x2B (number 2 home ++ (number 2 at ++ number 2 len) ++ number 2 a)) }
 {
-    put_head(errs, e, 0x2B, 8, home);
-    put_number(errs, e + 5, at);
-    put_number(errs, e + 7, len);
-    put_number(errs, e + 9, a);
+    put_numbers(errs, e, 0x2B, [home, at, len, a]);
 }
