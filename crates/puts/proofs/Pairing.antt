@@ -1,11 +1,11 @@
 -- A record of numbers, put one number after the other. Assumes nothing.
-use mathlib.Core.Path.{◌≡◌, refl, ap, ◌∙◌}
-use mathlib.Core.List.{List, [], ◌∷◌, ◌++◌}
+use mathlib.Core.Path.{◌≡◌}
+use mathlib.Core.List.{List, ◌∷◌, ◌++◌}
 use Prim.Native.Nat.{ℕ, ◌+◌, ◌*◌, ◌≤◌, ◌<◌}
 use native.Mathlib.Omega.{arith}
 use Rattle.std.proofs.Common.{take_all}
-use lib.ListN.{length, get_or, set, take}
-use Rattle.fields.specs.Number.{number, length-number}
+use lib.ListN.{length, get_or, take}
+use Rattle.fields.specs.Number.{number}
 use Rattle.fields.specs.Field.{field}
 use Rattle.fields.specs.Room.{overlay}
 use Rattle.puts.specs.Pairs.{pairs, length-pairs, length-some, pairs-more}

@@ -1,6 +1,6 @@
 -- Numbers of two bytes each, one behind the other. Assumes nothing.
-use Rattle.std.specs.Prelude.{ℕ, zero, suc, ◌+◌, ◌*◌, ◌<◌, ◌≡◌, refl, List, [], ◌∷◌, ◌++◌, length, get_or, take}
-use Rattle.std.proofs.Common.{arith, ap, add-one, length-append, append_assoc, append-nil, take-suc, length-take-le, ◌∙◌, sym}
+use Rattle.std.specs.Prelude.{ℕ, ◌+◌, ◌*◌, ◌<◌, ◌≡◌, refl, List, [], ◌∷◌, ◌++◌, length, get_or, take}
+use Rattle.std.proofs.Common.{arith, add-one, length-append, append_assoc, append-nil, take-suc, length-take-le, ◌∙◌}
 use Rattle.fields.specs.Number.{number, length-number}
 
 unfoldable pub pairs : List ℕ → List ℕ

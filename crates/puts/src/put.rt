@@ -1,5 +1,5 @@
 // Records: each is put as far as there is room. Over an empty room nothing is written.
-ghost use Rattle.std.specs.Prelude.{◌≡◌, [], ◌∷◌, ◌++◌, ◌+◌, ◌*◌, ◌<◌, ◌^◌, length, set};
+ghost use Rattle.std.specs.Prelude.{◌≡◌, [], ◌∷◌, ◌++◌, ◌+◌, ◌*◌, ◌/◌, ◌%◌, ◌<◌, ◌^◌, length, set};
 ghost use Rattle.fields.specs.Number.{number};
 ghost use Rattle.fields.specs.Field.{field};
 ghost use Rattle.fields.specs.Room.{overlay};
@@ -14,28 +14,44 @@ pub fn put1(out: &mut [u8], o: usize, b: u8)
     }
 }
 
+// The lower byte of a number.
+fn low(a: usize) -> u8
+    ensures { result ≡ a % 256 }
+{
+    (a % 256) as u8
+}
+
+// The byte above it.
+fn high(a: usize) -> u8
+    ensures { result ≡ a / 256 % 256 }
+{
+    (a / 256 % 256) as u8
+}
+
+// Bytes: each is stored at once where there is room for all.
+#[inline(always)]
+fn put_bytes<const N: usize>(out: &mut [u8], o: usize, bytes: [u8; N])
+    requires { o + N < 2 ^ 64 }
+    ensures { out.new ≡ overlay out.old o bytes.entry }
+{
+    if out.len() < o + N {
+        fields::put(out, o, &bytes);
+        return;
+    }
+    for i in 0..N {
+        out[o + i] = bytes[i];
+    }
+}
+
 pub fn put_number(out: &mut [u8], o: usize, a: usize)
     requires { o + 2 < 2 ^ 64 }
     ensures { out.new ≡ overlay out.old o (number 2 a) }
 {
-    if o + 2 <= out.len() {
-        out[o] = (a % 256) as u8;
-        out[o + 1] = (a / 256 % 256) as u8;
-    } else {
-        put1(out, o, (a % 256) as u8);
-    }
-}
-
-fn put3(out: &mut [u8], o: usize, a: u8, b: u8, c: u8)
-    requires { o + 3 < 2 ^ 64 }
-    ensures { out.new ≡ overlay out.old o (a ∷ b ∷ c ∷ []) }
-{
-    put1(out, o, a);
-    put1(out, o + 1, b);
-    put1(out, o + 2, c);
+    put_bytes(out, o, [low(a), high(a)]);
 }
 
 // A record of numbers. Where there is room for all of it each byte is stored at once.
+#[inline(always)]
 fn put_numbers<const N: usize>(out: &mut [u8], o: usize, tag: u8, numbers: [usize; N])
     requires { (o + 3 + 2 * N < 2 ^ 64) × (2 * N < 65536) }
     ensures { out.new ≡ overlay out.old o (field tag (pairs numbers.entry)) }
@@ -45,11 +61,11 @@ fn put_numbers<const N: usize>(out: &mut [u8], o: usize, tag: u8, numbers: [usiz
         return;
     }
     out[o] = tag;
-    out[o + 1] = (2 * N % 256) as u8;
-    out[o + 2] = (2 * N / 256 % 256) as u8;
+    out[o + 1] = low(2 * N);
+    out[o + 2] = high(2 * N);
     for i in 0..N {
-        out[o + 3 + 2 * i] = (numbers[i] % 256) as u8;
-        out[o + 4 + 2 * i] = (numbers[i] / 256 % 256) as u8;
+        out[o + 3 + 2 * i] = low(numbers[i]);
+        out[o + 4 + 2 * i] = high(numbers[i]);
     }
 }
 
@@ -94,23 +110,7 @@ pub fn put_mid(out: &mut [u8], o: usize, tag: u8, a: usize, x: u8, b: usize)
     requires { o + 8 < 2 ^ 64 }
     ensures { out.new ≡ overlay out.old o (field tag (number 2 a ++ (x ∷ number 2 b))) }
 {
-    if o + 8 <= out.len() {
-        out[o] = tag;
-        out[o + 1] = 5;
-        out[o + 2] = 0;
-        out[o + 3] = (a % 256) as u8;
-        out[o + 4] = (a / 256 % 256) as u8;
-        out[o + 5] = x;
-        out[o + 6] = (b % 256) as u8;
-        out[o + 7] = (b / 256 % 256) as u8;
-        return;
-    }
-    if o < out.len() {
-        put3(out, o, tag, 5, 0);
-        put_number(out, o + 3, a);
-        put1(out, o + 5, x);
-        put_number(out, o + 6, b);
-    }
+    put_bytes(out, o, [tag, 5, 0, low(a), high(a), x, low(b), high(b)]);
 }
 
 // A record of three numbers.
@@ -126,19 +126,7 @@ pub fn put_head(out: &mut [u8], o: usize, tag: u8, len: usize, a: usize)
     requires { o + 5 < 2 ^ 64 }
     ensures { out.new ≡ overlay out.old o (tag ∷ (number 2 len ++ number 2 a)) }
 {
-    if o + 5 <= out.len() {
-        out[o] = tag;
-        out[o + 1] = (len % 256) as u8;
-        out[o + 2] = (len / 256 % 256) as u8;
-        out[o + 3] = (a % 256) as u8;
-        out[o + 4] = (a / 256 % 256) as u8;
-        return;
-    }
-    if o < out.len() {
-        put1(out, o, tag);
-        put_number(out, o + 1, len);
-        put_number(out, o + 3, a);
-    }
+    put_bytes(out, o, [tag, low(len), high(len), low(a), high(a)]);
 }
 
 // A record of an integer, in eight bytes.
@@ -172,10 +160,8 @@ pub fn put_char(out: &mut [u8], o: usize, c: u32)
     let l = text::utf8_len(c);
     put1(out, o, 0x55);
     put_number(out, o + 1, l);
-    let mut i = 0;
-    while i < l {
+    for i in 0..l {
         put1(out, o + 3 + i, text::utf8_byte(c, i));
-        i += 1;
     }
 }
 

@@ -1,6 +1,6 @@
-use Prim.Native.Nat.{ℕ, ◌*◌}
+use Prim.Native.Nat.{◌*◌}
 use mathlib.Core.Path.{◌≡◌}
-use mathlib.Core.List.{List, ◌∷◌, ◌++◌}
+use mathlib.Core.List.{◌∷◌, ◌++◌}
 use lib.ListN.{length, take}
 use Rattle.fields.specs.Number.{number}
 use Rattle.fields.specs.Room.{overlay}

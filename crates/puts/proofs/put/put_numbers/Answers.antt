@@ -12,7 +12,7 @@ use Rattle.puts.proofs.put.put_numbers.Goals as goal
 
 pub loop-i-init : goal.loop-i-init
 unfolding number pairs
-loop-i-init g c = let a = c.args in (three-stored a.out.now a.o a.tag _ _, simp length-set)
+loop-i-init g c = let a = c.args in (rw (c.low.ensures, c.high.ensures) (three-stored a.out.now a.o a.tag _ _), simp length-set)
 
 pub loop-i-preserved : goal.loop-i-preserved
 unfolding number
@@ -22,7 +22,7 @@ loop-i-preserved g c =
     let n : length a.numbers ≡ g.row.N = search rules in
     let v = c.loop-i.invariant in
     let e : a.o + 4 + 2 * i ≡ a.o + 3 + 2 * i + 1 = omega arith in
-    (one-more a.out.now a.o a.tag _ a.numbers _ _ _ _ (omega (arith, n, c.loop-i-test.true)) refl v.0 (rw e (two-stored c.loop-i.out (a.o + 3 + 2 * i) _ _)), simp length-set v.1)
+    (one-more a.out.now a.o a.tag _ a.numbers _ _ _ _ (omega (arith, n, c.loop-i-test.true)) refl v.0 (rw (c.low-in-loop-i.ensures, c.high-in-loop-i.ensures, e) (two-stored c.loop-i.out (a.o + 3 + 2 * i) _ _)), simp length-set v.1)
 
 pub returns : goal.returns
 returns g c =
