@@ -134,12 +134,8 @@ pub fn put_int(out: &mut [u8], o: usize, x: u64)
     requires { o + 11 < 2 ^ 64 }
     ensures { out.new ≡ overlay out.old o (field 0x53 (number 8 x)) }
 {
-    let l = (x % 4294967296) as usize;
-    let h = (x / 4294967296) as usize;
-    put_head(out, o, 0x53, 8, l % 65536);
-    put_number(out, o + 5, l / 65536);
-    put_number(out, o + 7, h % 65536);
-    put_number(out, o + 9, h / 65536);
+    put_bytes(out, o, [0x53, 8, 0]);
+    put_bytes(out, o + 3, x.to_le_bytes());
 }
 
 // A record of a text.
