@@ -18,6 +18,7 @@ ghost use Rattle.reads.specs.Bytes.{PatternAt};
 ghost use Rattle.reads.specs.Widths.{pat_width, parts_width, fold_width};
 ghost use Rattle.reads.specs.Kinds.{fold_number};
 ghost use Rattle.reads.specs.Shapes.{PartAt, StrPartAt};
+ghost use Rattle.puts.specs.Calls.{call_number};
 ghost use Rattle.puts.specs.State.{num, off, ers};
 ghost use Rattle.cells.specs.Cells.{number_at, last_at, before_at};
 ghost use Rattle.cells.specs.Notes.{pat_at, steps_at, pairs_at, string_node, summed};
@@ -425,12 +426,12 @@ fn put_def(
     jump: calls::Jump,
 ) -> u64
     requires { ArgsReady tree.now rows.now j k a o 10 × (before_at rows.now j ≤ get_or rows.now 1 0) }
-    ensures { (out.new ≡ overlay out.old o (def_bytes (number_at rows.now j) (args_at tree.now rows.now j k a) (get_or rows.now 1 0 - before_at rows.now j) jump.call.number)) × (result ≡ jump.tail) }
+    ensures { (out.new ≡ overlay out.old o (def_bytes (number_at rows.now j) (args_at tree.now rows.now j k a) (get_or rows.now 1 0 - before_at rows.now j) (call_number jump.call))) × (result ≡ jump.tail) }
 {
     put_head(out, o, 0x5A, 7 + 3 * a, number(rows, j));
     put_args(tree, rows, j, k, a, out, o + 5);
     put_number(out, o + 7 + 3 * a, cells::skip(rows, j));
-    put1(out, o + 9 + 3 * a, jump.call.number);
+    put1(out, o + 9 + 3 * a, jump.call.number());
     jump.tail
 }
 
