@@ -28,7 +28,7 @@ ghost use Rattle.records.specs.Steps.{given, Puts, PartPut, PartsReady, PathRead
 ghost use Rattle.records.specs.Sums.{SummandIs, Summands, SumReady, OwnReady, SumsPut, SumPut};
 ghost use Rattle.records.specs.Calls.{args_at, def_bytes, ArgsReady, CallReady, CallPut, Failed};
 
-use cells::{last, number};
+use cells::{RowKind, last, number};
 use finds::Meaning;
 use puts::put::{
     put_bare, put_char, put_error, put_filter_error, put_head, put_mid, put_number, put_one,
@@ -324,7 +324,7 @@ fn put_summand(tree: &[u8], rows: &[u64], j: usize, f: usize, out: &mut [u8], o:
 {
     let a = number(rows, j);
     let b = last(rows, j) as usize;
-    if cells::kind(rows, j) == cells::KEPT {
+    if let RowKind::Kept = cells::kind(rows, j) {
         put_two(out, o, 0x58, a, b);
         return o + 7;
     }
