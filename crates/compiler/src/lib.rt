@@ -25,12 +25,13 @@ ghost use Rattle.puts.specs.State.{num, off, ers, start_of, spot_of, next_of, Pu
 ghost use Rattle.cells.specs.Cells.{View, Seen, env_of};
 ghost use Rattle.cells.specs.Notes.{lasts_of, places_in, pair_count};
 ghost use Rattle.compiler.specs.Pieces.{Under, Folding, Noted, Projected, Updating, plain_out, FormatIs, StringIs, EntryIs, LoneIs};
+ghost use Rattle.cells.specs.Classes.{class_number};
 ghost use Rattle.finds.specs.Numbers.{numbers};
 ghost use Rattle.compiler.specs.Calling.{Meaning, Reserved};
 ghost use Rattle.compiler.specs.Same.{Same};
 ghost use Rattle.compiler.specs.Post.{Ready, Stands, Placed, NameIs, Did, Laid, OrEmpty, Else, Passed, Paired, Patterned, Members, Keyed, Parted, PartIs, BoundIs, Strung, Entered, Defined, Scoped};
 
-use cells::{close, note};
+use cells::{Binding, Class, RowKind, close, note};
 use puts::put::{put_bare, put_one};
 use puts::state::{LATE, State};
 use puts::{calls, put};
@@ -63,7 +64,7 @@ impl Compiler<'_, '_> {
         let tag = tree[p];
         match tag {
             0xA0 => bare(&mut self.st, self.out, o, 0x50),
-            0xA7 => self.named(tree, p, 0, 0x29, o),
+            0xA7 => self.named(tree, p, Class::Variable, 0x29, o),
             0xAA => self.num(tree, p, o),
             _ => self.term(tree, p, k, o, allowed),
         }
@@ -83,9 +84,9 @@ impl Compiler<'_, '_> {
             0xA2 => self.arr(tree, p, k, o),
             0xA3 => self.neg(tree, p, k, o),
             0xA4 => self.label(tree, p, k, o),
-            0xA5 => self.named(tree, p, 1, 0x2A, o),
+            0xA5 => self.named(tree, p, Class::Label, 0x2A, o),
             0xA6 => self.ite(tree, p, k, o, allowed),
-            0xA7 => self.named(tree, p, 0, 0x29, o),
+            0xA7 => self.named(tree, p, Class::Variable, 0x29, o),
             0xA8 => self.call(tree, p, k, o, allowed),
             0xA9 => self.def(tree, p, k, o, allowed),
             0xAA => self.num(tree, p, o),
@@ -109,16 +110,15 @@ fn bare(st: &mut State, out: &mut [u8], o: usize, tag: u8) -> u64
 }
 
 impl Compiler<'_, '_> {
-    // A variable (class 0) or a break (class 1): its index, or an error of the tag and Id.
-    fn named(&mut self, tree: &[u8], p: usize, class: u64, tag: u8, o: usize) -> u64
-        requires { ((k : ℕ) × Ready tree.now self.old.rows.now k (p + 1) (end_of tree.now p) self.old.st) × Stands tree.now p × Placed o self.old.st × NameIs class tag (get_or tree.now p 0) }
+    // A variable or a break: its index, or an error of the tag and Id.
+    fn named(&mut self, tree: &[u8], p: usize, class: Class, tag: u8, o: usize) -> u64
+        requires { ((k : ℕ) × Ready tree.now self.old.rows.now k (p + 1) (end_of tree.now p) self.old.st) × Stands tree.now p × Placed o self.old.st × NameIs (class_number class) tag (get_or tree.now p 0) }
         ensures same { Same self.old self.new }
         ensures is { (k al : ℕ) → Did tree.now p self.old.rows.now self.new.rows.now k o self.old.st self.new.st self.old.out.now self.new.out.now al result }
     {
         let z = end_of(tree, p);
         let rows = &mut *self.rows;
-        let j = finds::find(tree, rows, &tree[p + 3..z], class);
-        if j == 0 {
+        let Some(j) = finds::find(tree, rows, &tree[p + 3..z], class) else {
             put::put_error(
                 self.out,
                 self.st.insert_error(9),
@@ -128,7 +128,7 @@ impl Compiler<'_, '_> {
                 z - p - 3,
             );
             return bare(&mut self.st, self.out, o, 0x50);
-        }
+        };
         put_one(self.out, self.st.alone(o, 5), 0x59, cells::index(rows, j));
         0
     }
@@ -211,7 +211,7 @@ impl Compiler<'_, '_> {
         self.st.reserve(o, 5);
         let a = self.st.terms;
         let c = self.rows[cells::IN_VIEW];
-        cells::bind(tree, self.rows, k, cells::LABEL, p + 3, 0);
+        cells::bind(tree, self.rows, k, RowKind::Label, p + 3, 0);
         self.iterm(tree, end_of(tree, p + 3), k + 1, 0);
         close(self.rows, k, k + 1, c);
         put_one(self.out, self.st.place(o, 5), 0x5C, a);
@@ -259,7 +259,7 @@ impl Compiler<'_, '_> {
         while bytes::is_tag(tree, p, z, 0xB8) {
             let a = self.st.terms;
             self.iterm(tree, p + 3, i, 0);
-            note(self.rows, i, cells::KEPT, a, self.st.terms);
+            note(self.rows, i, RowKind::Kept, a, self.st.terms);
             t = t | self.iterm(tree, end_of(tree, p + 3), i + 1, allowed);
             p = end_of(tree, p);
             i += 1;
@@ -423,10 +423,10 @@ impl Compiler<'_, '_> {
     {
         let tag = tree[q];
         if tag == 0x98 {
-            note(self.rows, k, cells::KEPT, n, q);
+            note(self.rows, k, RowKind::Kept, n, q);
             return k + 1;
         }
-        note(self.rows, k, cells::KEPT, n, 0);
+        note(self.rows, k, RowKind::Kept, n, 0);
         if tag == 0x99 {
             return self.items(tree, q, k + 1);
         }
@@ -621,12 +621,12 @@ impl Compiler<'_, '_> {
         let a = self.st.terms;
         if tree[q] == 0xBE {
             self.iterm(tree, q + 3, k, 0);
-            note(self.rows, k, cells::KEPT, a, 0);
+            note(self.rows, k, RowKind::Kept, a, 0);
             return;
         }
         let z = end_of(tree, q);
         self.bound(tree, q + 3, z, 0xC1, k);
-        note(self.rows, k, cells::KEPT, a, self.st.terms);
+        note(self.rows, k, RowKind::Kept, a, self.st.terms);
         self.bound(tree, bytes::past(tree, q + 3, z, 0xC1), z, 0xC2, k + 1);
     }
 
@@ -705,7 +705,7 @@ impl Compiler<'_, '_> {
         for p in fields(tree, q, z) {
             let n = self.st.terms;
             self.string(tree, p, i);
-            note(self.rows, i, cells::PIECE, n, p);
+            note(self.rows, i, RowKind::Piece, n, p);
             i += 1;
         }
         i
@@ -771,7 +771,7 @@ impl Compiler<'_, '_> {
         if v < end_of(tree, q) {
             let a = self.st.terms;
             self.iterm(tree, q + 3, k, 0);
-            note(self.rows, k, cells::KEPT, a, self.st.terms);
+            note(self.rows, k, RowKind::Kept, a, self.st.terms);
             self.iterm(tree, v, k + 1, 0);
             return;
         }
@@ -793,7 +793,7 @@ impl Compiler<'_, '_> {
         let a = self.st.terms;
         put::put_text(self.out, self.st.insert(z - p - 1), 0x55, &tree[p + 4..z]);
         self.iterm(tree, p, k, 0);
-        note(self.rows, k, cells::KEPT, a, a + 1);
+        note(self.rows, k, RowKind::Kept, a, a + 1);
     }
 
     // "other lone keys read themselves from Id: key, Id, then a Path, not optional"
@@ -808,7 +808,7 @@ impl Compiler<'_, '_> {
         let b = self.st.terms;
         put_bare(self.out, self.st.insert(3), 0x50);
         records::put_own(self.out, self.st.insert(11), b, a);
-        note(self.rows, k, cells::KEPT, a, b + 1);
+        note(self.rows, k, RowKind::Kept, a, b + 1);
     }
 }
 
@@ -853,7 +853,7 @@ impl Compiler<'_, '_> {
         for i in 0..a {
             let n = self.st.terms;
             self.iterm(tree, p, k + i, 0);
-            note(self.rows, k + i, cells::KEPT, n, 0);
+            note(self.rows, k + i, RowKind::Kept, n, 0);
             p = end_of(tree, p);
         }
     }
@@ -926,6 +926,15 @@ impl Compiler<'_, '_> {
         rows::enter(tree, self.rows, k, q + 3, u.a, n);
         let t = self.iterm(tree, u.q, k + u.a + 1, allowed | calls::bit(l));
         cells::leave(self.rows, k, k + u.a + 1, c, l);
-        cells::push(tree, self.rows, k, cells::SIBLING, q + 3, u.a, n, c, l, t);
+        let row = Binding {
+            kind: RowKind::Sibling,
+            place: q + 3,
+            arity: u.a,
+            number: n,
+            before: c,
+            level: l,
+            tail: t,
+        };
+        cells::push(tree, self.rows, k, row);
     }
 }

@@ -10,3 +10,4 @@ pub mod Under
 pub mod Wide
 pub mod Hits
 pub mod Numbers
+pub mod Gives

@@ -30,7 +30,7 @@ ghost use Rattle.records.specs.Steps.{given, Puts, PartPut, PartsReady, PathRead
 ghost use Rattle.records.specs.Sums.{SummandIs, Summands, SumReady, OwnReady, SumsPut, SumPut};
 ghost use Rattle.records.specs.Calls.{args_at, def_bytes, ArgsReady, CallReady, CallPut, Failed};
 
-use cells::{last, number};
+use cells::{RowKind, last, number};
 use finds::Meaning;
 use puts::calls;
 use puts::put::{
@@ -321,7 +321,7 @@ fn put_summand(tree: &[u8], rows: &[u64], j: usize, f: usize, out: &mut [u8], o:
 {
     let a = number(rows, j);
     let b = last(rows, j) as usize;
-    if cells::kind(rows, j) == cells::KEPT {
+    if let RowKind::Kept = cells::kind(rows, j) {
         put_two(out, o, 0x58, a, b);
         return o + 7;
     }

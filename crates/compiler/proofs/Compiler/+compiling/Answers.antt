@@ -59,7 +59,7 @@ pub args-overflow_add-k-in-loop-i : goal.args-overflow_add-k-in-loop-i
 args-overflow_add-k-in-loop-i t c = let o = c.loop-i.invariant.1 in omega (arith, o.some.1.spare, o.some.1.seen.small)
 
 pub args-note-requires : goal.args-note-requires
-args-note-requires t c = passing-note _ _ _ _ _ _ _ _ _ _ _ _ c.loop-i.invariant.1 _ _ _ _ c.iterm.ensures.is c.loop-i-test.true _ refl
+args-note-requires t c = let w = passing-note _ _ _ _ _ _ _ _ _ _ _ _ c.loop-i.invariant.1 _ _ _ _ c.iterm.ensures.is c.loop-i-test.true _ refl in (w.0, w.1)
 
 pub args-end_of-p-requires : goal.args-end_of-p-requires
 args-end_of-p-requires t c = passing-fits _ _ _ _ _ _ _ _ _ _ _ _ c.loop-i.invariant.1 c.loop-i-test.true
@@ -1037,7 +1037,7 @@ pub obj_entry-note-requires : goal.obj_entry-note-requires
 obj_entry-note-requires t c =
     let b = c.args.tree.now in
     let y = c.requires.0 in
-    (omega (arith, noting.note-room b _ _ _ _ _ y (omega arith), c.iterm.ensures.is.paid.same), noting.note-few b _ _ _ _ _ y (omega arith), omega arith)
+    (omega (arith, noting.note-room b _ _ _ _ _ y (omega arith), c.iterm.ensures.is.paid.same), noting.note-few b _ _ _ _ _ y (omega arith))
 
 pub obj_entry-overflow_add-k : goal.obj_entry-overflow_add-k
 obj_entry-overflow_add-k t c =
@@ -1168,8 +1168,8 @@ open_def-leave-requires t c = let y = c.requires.0 in
     let o = open-known _ _ _ _ _ c.requires.1 c.end_of.ensures c.params-u.ensures in
     open-leave _ _ _ _ _ _ _ _ y o refl _ c.enter.ensures _ _ _ _ c.args.allowed _ _ c.bit.ensures c.iterm-t.ensures.is
 
-pub open_def-overflow_add-q-3 : goal.open_def-overflow_add-q-3
-open_def-overflow_add-q-3 t c = let y = c.requires.0 in omega (arith, y.small, y.within, y.order)
+pub open_def-overflow_add-row : goal.open_def-overflow_add-row
+open_def-overflow_add-row t c = let y = c.requires.0 in omega (arith, y.small, y.within, y.order)
 
 pub open_def-push-requires : goal.open_def-push-requires
 open_def-push-requires t c = let y = c.requires.0 in
@@ -1275,7 +1275,7 @@ pub own_key-note-requires : goal.own_key-note-requires
 own_key-note-requires t c =
     let b = c.args.tree.now in
     let y = c.requires.0 in
-    (omega (arith, noting.note-room b _ _ _ _ _ y (omega arith), c.iterm.ensures.is.paid.same), noting.note-few b _ _ _ _ _ y (omega arith), omega arith)
+    (omega (arith, noting.note-room b _ _ _ _ _ y (omega arith), c.iterm.ensures.is.paid.same), noting.note-few b _ _ _ _ _ y (omega arith))
 
 pub own_key-returns-clause-is : goal.own_key-returns-clause-is
 own_key-returns-clause-is t c =
@@ -1379,7 +1379,7 @@ own_var-note-requires t c =
     let b = c.args.tree.now in
     let l = c.requires.0.1 in
     let y = c.requires.0.2 in
-    (omega (arith, noting.note-room b _ _ _ _ _ y (omega (arith, l)), c.iterm.ensures.is.paid.same), noting.note-few b _ _ _ _ _ y (omega (arith, l)), omega arith)
+    (omega (arith, noting.note-room b _ _ _ _ _ y (omega (arith, l)), c.iterm.ensures.is.paid.same), noting.note-few b _ _ _ _ _ y (omega (arith, l)))
 
 pub own_var-returns-clause-is : goal.own_var-returns-clause-is
 own_var-returns-clause-is t c =
@@ -1429,7 +1429,7 @@ pairs-note-requires t c =
     let v = pairing.pairs-ready _ _ _ _ _ _ _ _ _ _ _ _ _ _ y m in
     let h = tag-yes c.args.tree.now c.loop-a.p c.args.z 0xB8 (sym c.is_tag.ensures ∙ c.loop-a-test.true) in
     let a = pairing.pair-test _ _ _ _ _ _ v h.0 h.1 m.some in
-    asks.note-laid _ _ _ _ _ _ _ _ _ _ _ _ _ _ v h.0 (omega (arith, a.2)) c.iterm-t.ensures.is refl
+    let w = asks.note-laid _ _ _ _ _ _ _ _ _ _ _ _ _ _ v h.0 (omega (arith, a.2)) c.iterm-t.ensures.is refl in (w.0, w.1)
 
 pub pairs-overflow_add-p-in-loop-a : goal.pairs-overflow_add-p-in-loop-a
 pairs-overflow_add-p-in-loop-a t c =
@@ -1540,7 +1540,7 @@ pub part-note-requires : goal.part-note-requires
 part-note-requires t c =
     let b = c.args.tree.now in
     let y = c.requires.0 in
-    (omega (arith, noting.note-room b _ _ _ _ _ y (omega arith), c.iterm.ensures.is.paid.same), noting.note-few b _ _ _ _ _ y (omega arith), omega arith)
+    (omega (arith, noting.note-room b _ _ _ _ _ y (omega arith), c.iterm.ensures.is.paid.same), noting.note-few b _ _ _ _ _ y (omega arith))
 
 pub part-returns-then-tree-q-clause-is : goal.part-returns-then-tree-q-clause-is
 part-returns-then-tree-q-clause-is t c =
@@ -1577,7 +1577,7 @@ pub part-note-requires-2 : goal.part-note-requires-2
 part-note-requires-2 t c =
     let b = c.args.tree.now in
     let y = c.requires.0 in
-    (omega (arith, noting.note-room b _ _ _ _ _ y (omega arith), c.bound.ensures.is.paid.same), noting.note-few b _ _ _ _ _ y (omega arith), omega arith)
+    (omega (arith, noting.note-room b _ _ _ _ _ y (omega arith), c.bound.ensures.is.paid.same), noting.note-few b _ _ _ _ _ y (omega arith))
 
 pub part-overflow_add-q-3 : goal.part-overflow_add-q-3
 part-overflow_add-q-3 t c =
@@ -1764,7 +1764,7 @@ pattern-bounds-tree-q t c =
 pub pattern-note-requires : goal.pattern-note-requires
 pattern-note-requires t c =
     let y = c.requires.0 in
-    (pats.pattern-room c.args.tree.now c.args.self.now.rows.now c.args.k c.args.q c.requires.2.0 c.requires.2.1 c.requires.1, c.requires.3, omega arith)
+    (pats.pattern-room c.args.tree.now c.args.self.now.rows.now c.args.k c.args.q c.requires.2.0 c.requires.2.1 c.requires.1, c.requires.3)
 
 pub pattern-overflow_add-result : goal.pattern-overflow_add-result
 pattern-overflow_add-result t c =
@@ -1779,7 +1779,7 @@ pattern-returns-then-tag-clause-is t c =
 pub pattern-note-requires-2 : goal.pattern-note-requires-2
 pattern-note-requires-2 t c =
     let y = c.requires.0 in
-    (pats.pattern-room c.args.tree.now c.args.self.now.rows.now c.args.k c.args.q c.requires.2.0 c.requires.2.1 c.requires.1, c.requires.3, omega arith)
+    (pats.pattern-room c.args.tree.now c.args.self.now.rows.now c.args.k c.args.q c.requires.2.0 c.requires.2.1 c.requires.1, c.requires.3)
 
 pub pattern-overflow_add-k : goal.pattern-overflow_add-k
 pattern-overflow_add-k t c =
@@ -2179,7 +2179,7 @@ strings-note-requires t c =
     let n = turn c.loop-p.p-iterator c.next.new.self c.loop-p.invariant.1 c.in-Some.ensures.steps c.in-Some.ensures.goes.keeps in
     let v = forms_strings.strings-on _ _ _ _ _ _ _ _ _ _ _ _ _ n.here c.loop-p.invariant.3 in
     let w = forms_strings.strings-next b _ _ _ _ _ _ _ _ _ _ _ v n.within in
-    (omega (arith, noting.note-room b _ _ _ _ _ w.0 (omega arith), c.string.ensures.is.paid.same), noting.note-few b _ _ _ _ _ w.0 (omega arith), omega arith)
+    (omega (arith, noting.note-room b _ _ _ _ _ w.0 (omega arith), c.string.ensures.is.paid.same), noting.note-few b _ _ _ _ _ w.0 (omega arith))
 
 pub strings-overflow_add-i : goal.strings-overflow_add-i
 strings-overflow_add-i t c =
