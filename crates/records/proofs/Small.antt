@@ -14,11 +14,15 @@ use Rattle.puts.specs.declared.state.State.{State}
 use Rattle.puts.specs.State.{ers, with_ers}
 use Rattle.puts.specs.Runs.{run-then, byte-then, then-byte}
 use Rattle.rules.specs.Table.{n_path, index}
-use Rattle.rules.specs.Listing.{node_bytes, fold_bytes, opt_number, step_bytes, steps_bytes}
+use Rattle.rules.specs.Listing.{flag, node_bytes, fold_bytes, opt_number, step_bytes, steps_bytes}
 use Rattle.finds.specs.Hits as Hit
 use Rattle.records.specs.Operators.{op_tag}
 use Rattle.records.specs.Patterns.{folding_of}
+use Rattle.records.specs.Bounds.{bound_of}
 use Rattle.records.specs.Steps.{given, Puts}
+use Rattle.std.specs.Bool.{then_some}
+use Rattle.std.specs.Int.{from_bool}
+use Rattle.std.proofs.Math.Option.{none, some}
 use Rattle.records.specs.Calls.{lost_errs, Failed}
 
 -- ---- operators, by where their byte lies
@@ -57,13 +61,23 @@ op-key x k e = ap op_tag (sym e)
 
 -- ---- bounds
 
-pub bound-on : (on : Bool) (a o : ℕ) (d d₁ d₂ : List ℕ) → on ≡ true → d₁ ≡ set d o 1 → d₂ ≡ overlay d₁ (o + 1) (number 2 a) → Puts (opt_number 2 (given on a)) o d d₂ (o + 3)
+pub bound-on : (a o : ℕ) (d d₁ d₂ : List ℕ) → d₁ ≡ set d o 1 → d₂ ≡ overlay d₁ (o + 1) (number 2 a) → Puts (opt_number 2 (some a)) o d d₂ (o + 3)
 unfolding opt_number number
-bound-on on a o d d₁ d₂ t e f = rw t (record { room = byte-then d o 1 (number 2 a) d₁ d₂ e f; end = refl })
+bound-on a o d d₁ d₂ e f = record { room = byte-then d o 1 (number 2 a) d₁ d₂ e f; end = refl }
 
-pub bound-off : (on : Bool) (a o : ℕ) (d d₁ : List ℕ) → on ≡ false → d₁ ≡ set d o 0 → Puts (opt_number 2 (given on a)) o d d₁ (o + 1)
+pub bound-off : (o : ℕ) (d d₁ : List ℕ) → d₁ ≡ set d o 0 → Puts (opt_number 2 none) o d d₁ (o + 1)
 unfolding opt_number
-bound-off on a o d d₁ t e = rw t (record { room = e ∙ sym (overlay-one d o 0); end = refl })
+bound-off o d d₁ e = record { room = e ∙ sym (overlay-one d o 0); end = refl }
+
+-- a bound that is there where t says so
+pub bound-given : (t : Bool) (a : ℕ) → bound_of (then_some t a) ≡ given t a
+bound-given true a = refl
+bound-given false a = refl
+
+-- a truth as a byte
+pub byte-flag : (t : Bool) → from_bool t ≡ flag t
+byte-flag true = refl
+byte-flag false = refl
 
 -- ---- foldings
 

@@ -12,7 +12,7 @@ ghost use Rattle.tree.specs.Tree.{Pattern, Part, Parts, StrPart, operator};
 ghost use Rattle.tree.specs.Form.{f_parts};
 ghost use Rattle.tree.specs.Leaf.{is_operator};
 ghost use Rattle.rules.specs.Table.{Node, n_ite, n_pipe, n_path, index, n_native};
-ghost use Rattle.rules.specs.Listing.{flag, node_bytes, fold_bytes, opt_number, steps_bytes, arg_list};
+ghost use Rattle.rules.specs.Listing.{node_bytes, fold_bytes, opt_number, steps_bytes, arg_list};
 ghost use Rattle.rules.specs.Outs.{binary};
 ghost use Rattle.reads.specs.Bytes.{PatternAt};
 ghost use Rattle.reads.specs.Widths.{pat_width, parts_width, fold_width};
@@ -26,7 +26,8 @@ ghost use Rattle.finds.specs.Numbers.{numbers};
 ghost use Rattle.records.specs.Elses.{Elsed};
 ghost use Rattle.records.specs.Operators.{op_tag, op_choice};
 ghost use Rattle.records.specs.Patterns.{PatReady, PatPut, HoldsPat, folding_of, fold_node, HoldsFold};
-ghost use Rattle.records.specs.Steps.{given, Puts, PartPut, PartsReady, PathReady};
+ghost use Rattle.records.specs.Bounds.{bound_of};
+ghost use Rattle.records.specs.Steps.{Puts, PartPut, PartsReady, PathReady};
 ghost use Rattle.records.specs.Sums.{SummandIs, Summands, SumReady, OwnReady, SumsPut, SumPut};
 ghost use Rattle.records.specs.Calls.{args_at, def_bytes, ArgsReady, CallReady, CallPut, Failed};
 
@@ -41,15 +42,6 @@ use puts::state::State;
 use reads::bytes::{end_of, fields, members};
 use reads::width::FoldKind;
 use reads::{bytes, width};
-
-fn flag(t: bool) -> u8
-    ensures { result ≡ flag t }
-{
-    if t {
-        return 1;
-    }
-    0
-}
 
 // ---- conditionals
 
@@ -205,17 +197,17 @@ pub fn put_fold(
 
 // ---- paths
 
-fn put_bound(out: &mut [u8], o: usize, on: bool, a: usize) -> usize
+fn put_bound(out: &mut [u8], o: usize, a: Option<usize>) -> usize
     requires { o + 3 < 2 ^ 64 }
-    ensures { Puts (opt_number 2 (given on a)) o out.old out.new result }
+    ensures { Puts (opt_number 2 (bound_of a)) o out.old out.new result }
 {
-    if on {
-        put1(out, o, 1);
-        put_number(out, o + 1, a);
-        return o + 3;
-    }
-    put1(out, o, 0);
-    o + 1
+    let Some(a) = a else {
+        put1(out, o, 0);
+        return o + 1;
+    };
+    put1(out, o, 1);
+    put_number(out, o + 1, a);
+    o + 3
 }
 
 fn put_range(tree: &[u8], q: usize, a: usize, b: usize, out: &mut [u8], o: usize) -> usize
@@ -226,9 +218,9 @@ fn put_range(tree: &[u8], q: usize, a: usize, b: usize, out: &mut [u8], o: usize
     let u = bytes::past(tree, q + 3, z, 0xC1);
     let v = bytes::past(tree, u, z, 0xC2);
     put1(out, o, 1);
-    let s = put_bound(out, o + 1, q + 3 < u, a);
-    let t = put_bound(out, s, u < v, b);
-    put1(out, t, flag(v < z));
+    let s = put_bound(out, o + 1, (q + 3 < u).then_some(a));
+    let t = put_bound(out, s, (u < v).then_some(b));
+    put1(out, t, u8::from(v < z));
     t + 1
 }
 
@@ -242,7 +234,7 @@ fn put_part(tree: &[u8], q: usize, a: usize, b: usize, out: &mut [u8], o: usize)
     }
     put1(out, o, 0);
     put_number(out, o + 1, a);
-    put1(out, o + 3, flag(end_of(tree, q + 3) < end_of(tree, q)));
+    put1(out, o + 3, u8::from(end_of(tree, q + 3) < end_of(tree, q)));
     o + 4
 }
 
@@ -399,7 +391,7 @@ fn put_args(tree: &[u8], rows: &[u64], j: usize, k: usize, a: usize, out: &mut [
     let mut p = end_of(tree, cells::place(rows, j));
     let mut x = o + 2;
     for i in 0..a {
-        put1(out, x, flag(!bytes::is_var(tree, p)));
+        put1(out, x, u8::from(!bytes::is_var(tree, p)));
         put_number(out, x + 1, number(rows, k + i));
         p = end_of(tree, p);
         x += 3;
