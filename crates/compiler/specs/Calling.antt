@@ -9,7 +9,7 @@ use Rattle.rules.specs.Rules.{term}
 use Rattle.puts.specs.State.{off, start_of}
 use Rattle.reads.specs.Bytes.{TermAt}
 use Rattle.cells.specs.Cells.{View, Seen, env_of, outer}
-use Rattle.finds.specs.declared.Found as Hit
+use Rattle.finds.specs.Hits as Hit
 use Rattle.finds.specs.Means.{FoundIs}
 
 -- What a call of the name x at `at` with a arguments means where k rows are in view: of whatever rows are left of these, r says it

@@ -25,10 +25,12 @@ ghost use Rattle.puts.specs.State.{num, off, ers, start_of, spot_of, next_of, Pu
 ghost use Rattle.cells.specs.Cells.{View, Seen, env_of};
 ghost use Rattle.cells.specs.Notes.{lasts_of, places_in, pair_count};
 ghost use Rattle.compiler.specs.Pieces.{Under, Folding, Noted, Projected, Updating, plain_out, FormatIs, StringIs, EntryIs, LoneIs};
+ghost use Rattle.cells.specs.Classes.{class_number};
+ghost use Rattle.finds.specs.Numbers.{numbers};
 ghost use Rattle.compiler.specs.Calling.{Meaning, Reserved};
 ghost use Rattle.compiler.specs.Post.{Ready, Stands, Placed, NameIs, Did, Laid, OrEmpty, Else, Passed, Paired, Patterned, Members, Keyed, Parted, PartIs, BoundIs, Strung, Entered, Defined, Scoped};
 
-use cells::{close, note};
+use cells::{Binding, Class, RowKind, close, note};
 use puts::put::{put_bare, put_one};
 use puts::state::{alone, insert, insert_error, place, reserve};
 use puts::{calls, put, state};
@@ -58,7 +60,7 @@ pub fn iterm(
     let tag = tree[p];
     match tag {
         0xA0 => bare(st, out, o, 0x50),
-        0xA7 => named(tree, p, rows, 0, 0x29, st, out, o),
+        0xA7 => named(tree, p, rows, Class::Variable, 0x29, st, out, o),
         0xAA => num(tree, p, st, out, o),
         _ => term(tree, p, rows, k, st, out, o, allowed),
     }
@@ -86,9 +88,9 @@ fn term(
         0xA2 => arr(tree, p, rows, k, st, out, o),
         0xA3 => neg(tree, p, rows, k, st, out, o),
         0xA4 => label(tree, p, rows, k, st, out, o),
-        0xA5 => named(tree, p, rows, 1, 0x2A, st, out, o),
+        0xA5 => named(tree, p, rows, Class::Label, 0x2A, st, out, o),
         0xA6 => ite(tree, p, rows, k, st, out, o, allowed),
-        0xA7 => named(tree, p, rows, 0, 0x29, st, out, o),
+        0xA7 => named(tree, p, rows, Class::Variable, 0x29, st, out, o),
         0xA8 => call(tree, p, rows, k, st, out, o, allowed),
         0xA9 => def(tree, p, rows, k, st, out, o, allowed),
         0xAA => num(tree, p, st, out, o),
@@ -110,23 +112,22 @@ fn bare(st: &mut [usize; 3], out: &mut [u8], o: usize, tag: u8) -> u64
     0
 }
 
-// A variable (class 0) or a break (class 1): its index, or an error of the tag and Id.
+// A variable or a break: its index, or an error of the tag and Id.
 fn named(
     tree: &[u8],
     p: usize,
     rows: &[u64],
-    class: u64,
+    class: Class,
     tag: u8,
     st: &mut [usize; 3],
     out: &mut [u8],
     o: usize,
 ) -> u64
-    requires { ((k : ℕ) × Ready tree.now rows.now k (p + 1) (end_of tree.now p) st.old) × Stands tree.now p × Placed o st.old × NameIs class tag (get_or tree.now p 0) }
+    requires { ((k : ℕ) × Ready tree.now rows.now k (p + 1) (end_of tree.now p) st.old) × Stands tree.now p × Placed o st.old × NameIs (class_number class) tag (get_or tree.now p 0) }
     ensures { (k al : ℕ) → Did tree.now p rows.now rows.now k o st.old st.new out.old out.new al result }
 {
     let z = end_of(tree, p);
-    let j = finds::find(tree, rows, &tree[p + 3..z], class);
-    if j == 0 {
+    let Some(j) = finds::find(tree, rows, &tree[p + 3..z], class) else {
         put::put_error(
             out,
             insert_error(st, 9),
@@ -136,7 +137,7 @@ fn named(
             z - p - 3,
         );
         return bare(st, out, o, 0x50);
-    }
+    };
     put_one(out, alone(st, o, 5), 0x59, cells::index(rows, j));
     0
 }
@@ -161,7 +162,7 @@ fn supplied(tree: &[u8], rows: &[u64], x: &[u8], at: usize, st: &mut [usize; 3],
     ensures { ((vw : View) (k p : ℕ) → Seen vw tree.now rows.now k → let q = called vw.top p x.now at 0 (bare []) (env_of vw tree.now rows.now k) empty in Put (slot q) q.errs st.old st.new out.old out.new) × (num st.new ≡ num st.old + 1) × (off st.new ≤ off st.old + 10) × (ers st.new ≤ ers st.old + 11) }
 {
     let f = finds::call(tree, rows, x, at, 0);
-    let o = insert(st, finds::call_width(f.kind, 0));
+    let o = insert(st, finds::call_width(f, 0));
     records::put_call(tree, rows, f, 0, 0, out, o, 0);
     records::fail(rows, f, 0, st, out);
 }
@@ -243,7 +244,7 @@ fn label(
     reserve(st, o, 5);
     let a = st[0];
     let c = rows[cells::IN_VIEW];
-    cells::bind(tree, rows, k, cells::LABEL, p + 3, 0);
+    cells::bind(tree, rows, k, RowKind::Label, p + 3, 0);
     iterm(tree, end_of(tree, p + 3), rows, k + 1, st, out, 0);
     close(rows, k, k + 1, c);
     put_one(out, place(st, o, 5), 0x5C, a);
@@ -303,7 +304,7 @@ fn pairs(
     while bytes::is_tag(tree, p, z, 0xB8) {
         let a = st[0];
         iterm(tree, p + 3, rows, i, st, out, 0);
-        note(rows, i, cells::KEPT, a, st[0]);
+        note(rows, i, RowKind::Kept, a, st[0]);
         t = t | iterm(tree, end_of(tree, p + 3), rows, i + 1, st, out, allowed);
         p = end_of(tree, p);
         i += 1;
@@ -524,10 +525,10 @@ fn pattern(
 {
     let tag = tree[q];
     if tag == 0x98 {
-        note(rows, k, cells::KEPT, n, q);
+        note(rows, k, RowKind::Kept, n, q);
         return k + 1;
     }
-    note(rows, k, cells::KEPT, n, 0);
+    note(rows, k, RowKind::Kept, n, 0);
     if tag == 0x99 {
         return items(tree, q, rows, k + 1, st, out);
     }
@@ -749,12 +750,12 @@ fn part(tree: &[u8], q: usize, rows: &mut [u64], k: usize, st: &mut [usize; 3], 
     let a = st[0];
     if tree[q] == 0xBE {
         iterm(tree, q + 3, rows, k, st, out, 0);
-        note(rows, k, cells::KEPT, a, 0);
+        note(rows, k, RowKind::Kept, a, 0);
         return;
     }
     let z = end_of(tree, q);
     bound(tree, q + 3, z, 0xC1, rows, k, st, out);
-    note(rows, k, cells::KEPT, a, st[0]);
+    note(rows, k, RowKind::Kept, a, st[0]);
     bound(
         tree,
         bytes::past(tree, q + 3, z, 0xC1),
@@ -859,7 +860,7 @@ fn strings(
     while p < z {
         let n = st[0];
         string(tree, p, rows, i, st, out);
-        note(rows, i, cells::PIECE, n, p);
+        note(rows, i, RowKind::Piece, n, p);
         p = end_of(tree, p);
         i += 1;
     }
@@ -937,7 +938,7 @@ fn obj_entry(tree: &[u8], q: usize, rows: &mut [u64], k: usize, st: &mut [usize;
     if v < end_of(tree, q) {
         let a = st[0];
         iterm(tree, q + 3, rows, k, st, out, 0);
-        note(rows, k, cells::KEPT, a, st[0]);
+        note(rows, k, RowKind::Kept, a, st[0]);
         iterm(tree, v, rows, k + 1, st, out, 0);
         return;
     }
@@ -958,7 +959,7 @@ fn own_var(tree: &[u8], p: usize, rows: &mut [u64], k: usize, st: &mut [usize; 3
     let a = st[0];
     put::put_text(out, insert(st, z - p - 1), 0x55, &tree[p + 4..z]);
     iterm(tree, p, rows, k, st, out, 0);
-    note(rows, k, cells::KEPT, a, a + 1);
+    note(rows, k, RowKind::Kept, a, a + 1);
 }
 
 // "other lone keys read themselves from Id: key, Id, then a Path, not optional"
@@ -972,15 +973,15 @@ fn own_key(tree: &[u8], p: usize, rows: &mut [u64], k: usize, st: &mut [usize; 3
     let b = st[0];
     put_bare(out, insert(st, 3), 0x50);
     records::put_own(out, insert(st, 11), b, a);
-    note(rows, k, cells::KEPT, a, b + 1);
+    note(rows, k, RowKind::Kept, a, b + 1);
 }
 
 // ---- calls
 
 // What a call of the name x, which stands at `at`, with a arguments means where k rows are in view: whatever is done to the rows above them.
-fn meaning(tree: &[u8], rows: &[u64], k: usize, x: &[u8], at: usize, a: usize) -> finds::Found
+fn meaning(tree: &[u8], rows: &[u64], k: usize, x: &[u8], at: usize, a: usize) -> finds::Meaning
     requires { ((vw : View) × Seen vw tree.now rows.now k) × (length x.now < 65536) × (at < 2 ^ 32) × (a < 65536) }
-    ensures { Meaning tree.now rows.now k x.now at a result }
+    ensures { Meaning tree.now rows.now k x.now at a (numbers result) }
 {
     finds::call(tree, &rows[..4 * k], x, at, a)
 }
@@ -1003,7 +1004,7 @@ fn call(
     let q = end_of(tree, p + 3);
     let a = members(tree, q, end_of(tree, p));
     let f = meaning(tree, rows, k, &tree[p + 6..q], p + 6, a);
-    let w = finds::call_width(f.kind, a);
+    let w = finds::call_width(f, a);
     reserve(st, o, w);
     args(tree, q, a, rows, k, st, out);
     records::fail(rows, f, a, st, out);
@@ -1029,7 +1030,7 @@ fn args(
     while i < a {
         let n = st[0];
         iterm(tree, p, rows, k + i, st, out, 0);
-        note(rows, k + i, cells::KEPT, n, 0);
+        note(rows, k + i, RowKind::Kept, n, 0);
         p = end_of(tree, p);
         i += 1;
     }
@@ -1129,5 +1130,14 @@ pub fn open_def(
         allowed | calls::bit(l),
     );
     cells::leave(rows, k, k + u.a + 1, c, l);
-    cells::push(tree, rows, k, cells::SIBLING, q + 3, u.a, n, c, l, t);
+    let row = Binding {
+        kind: RowKind::Sibling,
+        place: q + 3,
+        arity: u.a,
+        number: n,
+        before: c,
+        level: l,
+        tail: t,
+    };
+    cells::push(tree, rows, k, row);
 }

@@ -14,7 +14,7 @@ use Rattle.puts.specs.State.{ers}
 use Rattle.puts.specs.Runs.{run-then, byte-then, then-byte}
 use Rattle.rules.specs.Table.{n_path, index}
 use Rattle.rules.specs.Listing.{node_bytes, fold_bytes, opt_number, step_bytes, steps_bytes}
-use Rattle.finds.specs.declared.Found as Hit
+use Rattle.finds.specs.Hits as Hit
 use Rattle.records.specs.Operators.{op_tag}
 use Rattle.records.specs.Patterns.{folding_of}
 use Rattle.records.specs.Steps.{given, Puts}

@@ -15,7 +15,7 @@ use Rattle.puts.specs.State.{ers}
 use Rattle.reads.specs.Bytes.{names_of, Fields}
 use Rattle.cells.specs.Cells.{kind_at, place_at, before_at, level_at, last_at}
 use Rattle.cells.specs.Notes.{numbers_of}
-use Rattle.finds.specs.declared.Found as Hit
+use Rattle.finds.specs.Hits as Hit
 use Rattle.finds.specs.Means.{FoundIs, undefined_kind}
 
 -- the arguments whose notes are the a rows from k on, as the parameters behind the name of row j take them

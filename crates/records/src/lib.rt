@@ -11,7 +11,7 @@ ghost use Rattle.tree.specs.Rose.{rnil, end_of, Row};
 ghost use Rattle.tree.specs.Tree.{Pattern, Part, Parts, StrPart, operator};
 ghost use Rattle.tree.specs.Form.{f_parts};
 ghost use Rattle.tree.specs.Leaf.{is_operator};
-ghost use Rattle.rules.specs.Table.{Node, n_ite, n_pipe, n_path, index, n_native, n_call_def, kind_number};
+ghost use Rattle.rules.specs.Table.{Node, n_ite, n_pipe, n_path, index, n_native};
 ghost use Rattle.rules.specs.Listing.{flag, node_bytes, fold_bytes, opt_number, steps_bytes, arg_list};
 ghost use Rattle.rules.specs.Outs.{binary};
 ghost use Rattle.reads.specs.Bytes.{PatternAt};
@@ -20,16 +20,18 @@ ghost use Rattle.reads.specs.Kinds.{fold_number};
 ghost use Rattle.reads.specs.Shapes.{PartAt, StrPartAt};
 ghost use Rattle.puts.specs.Calls.{call_number};
 ghost use Rattle.puts.specs.State.{num, off, ers};
-ghost use Rattle.cells.specs.Cells.{number_at, last_at, level_at, before_at};
+ghost use Rattle.cells.specs.Cells.{number_at, last_at, before_at};
 ghost use Rattle.cells.specs.Notes.{pat_at, steps_at, pairs_at, string_node, summed};
+ghost use Rattle.finds.specs.Numbers.{numbers};
 ghost use Rattle.records.specs.Elses.{Elsed};
 ghost use Rattle.records.specs.Operators.{op_tag, op_choice};
 ghost use Rattle.records.specs.Patterns.{PatReady, PatPut, HoldsPat, folding_of, fold_node, HoldsFold};
 ghost use Rattle.records.specs.Steps.{given, Puts, PartPut, PartsReady, PathReady};
 ghost use Rattle.records.specs.Sums.{SummandIs, Summands, SumReady, OwnReady, SumsPut, SumPut};
-ghost use Rattle.records.specs.Calls.{args_at, def_bytes, ArgsReady, jump_of, JumpReady, CallReady, CallPut, Failed};
+ghost use Rattle.records.specs.Calls.{args_at, def_bytes, ArgsReady, CallReady, CallPut, Failed};
 
-use cells::{last, number};
+use cells::{RowKind, last, number};
+use finds::Meaning;
 use puts::put::{
     put_bare, put_char, put_error, put_filter_error, put_head, put_mid, put_number, put_one,
     put_text, put_three, put_two, put1,
@@ -324,7 +326,7 @@ fn put_summand(tree: &[u8], rows: &[u64], j: usize, f: usize, out: &mut [u8], o:
 {
     let a = number(rows, j);
     let b = last(rows, j) as usize;
-    if cells::kind(rows, j) == cells::KEPT {
+    if let RowKind::Kept = cells::kind(rows, j) {
         put_two(out, o, 0x58, a, b);
         return o + 7;
     }
@@ -429,6 +431,7 @@ fn put_native(tree: &[u8], rows: &[u64], j: usize, k: usize, a: usize, out: &mut
     put_args(tree, rows, j, k, a, out, o + 5);
 }
 
+// A call of the definition of row j, by `jump`. What it returns.
 fn put_def(
     tree: &[u8],
     rows: &[u64],
@@ -437,104 +440,73 @@ fn put_def(
     a: usize,
     out: &mut [u8],
     o: usize,
-    call: calls::CallType,
-)
+    jump: calls::Jump,
+) -> u64
     requires { ArgsReady tree.now rows.now j k a o 10 × (before_at rows.now j ≤ get_or rows.now 1 0) }
-    ensures { out.new ≡ overlay out.old o (def_bytes (number_at rows.now j) (args_at tree.now rows.now j k a) (get_or rows.now 1 0 - before_at rows.now j) (call_number call)) }
+    ensures { (out.new ≡ overlay out.old o (def_bytes (number_at rows.now j) (args_at tree.now rows.now j k a) (get_or rows.now 1 0 - before_at rows.now j) (call_number jump.call))) × (result ≡ jump.tail) }
 {
     put_head(out, o, 0x5A, 7 + 3 * a, number(rows, j));
     put_args(tree, rows, j, k, a, out, o + 5);
     put_number(out, o + 7 + 3 * a, cells::skip(rows, j));
-    put1(out, o + 9 + 3 * a, call.number());
-}
-
-// How the definition of row j is called.
-fn jump(rows: &[u64], kind: u8, j: usize, allowed: u64) -> calls::Jump
-    requires { JumpReady rows.now kind j }
-    ensures { (call_number result.call ≡ kind_number (jump_of kind (level_at rows.now j) (last_at rows.now j) allowed).kind) × (result.tail ≡ (jump_of kind (level_at rows.now j) (last_at rows.now j) allowed).tail) }
-{
-    match kind {
-        3 => calls::parent(cells::level(rows, j), allowed),
-        4 => calls::sibling(cells::level(rows, j), last(rows, j), allowed),
-        _ => calls::outer(last(rows, j)),
-    }
-}
-
-fn put_jump(
-    tree: &[u8],
-    rows: &[u64],
-    kind: u8,
-    j: usize,
-    k: usize,
-    a: usize,
-    out: &mut [u8],
-    o: usize,
-    allowed: u64,
-) -> u64
-    requires { ArgsReady tree.now rows.now j k a o 10 × (before_at rows.now j ≤ get_or rows.now 1 0) × JumpReady rows.now kind j }
-    ensures { (out.new ≡ overlay out.old o (node_bytes 2 (n_call_def (number_at rows.now j) (args_at tree.now rows.now j k a) (get_or rows.now 1 0 - before_at rows.now j) (jump_of kind (level_at rows.now j) (last_at rows.now j) allowed).kind))) × (result ≡ (jump_of kind (level_at rows.now j) (last_at rows.now j) allowed).tail) }
-{
-    let u = jump(rows, kind, j, allowed);
-    put_def(tree, rows, j, k, a, out, o, u.call);
-    u.tail
+    put1(out, o + 9 + 3 * a, jump.call.number());
+    jump.tail
 }
 
 // A call with a arguments, whose numbers are in the notes from row k on. What it returns.
 pub fn put_call(
     tree: &[u8],
     rows: &[u64],
-    f: finds::Found,
+    f: Meaning,
     k: usize,
     a: usize,
     out: &mut [u8],
     o: usize,
     allowed: u64,
 ) -> u64
-    requires { CallReady tree.now rows.now f k a o }
-    ensures { CallPut tree.now rows.now f k a o out.old out.new allowed result }
+    requires { CallReady tree.now rows.now (numbers f) k a o }
+    ensures { CallPut tree.now rows.now (numbers f) k a o out.old out.new allowed result }
 {
-    let kind = f.kind;
-    let j = f.j;
-    match kind {
-        0 | 1 => {
+    match f {
+        Meaning::NoFilter { .. } | Meaning::NoModule { .. } => {
             put_bare(out, o, 0x50);
             0
         }
-        2 => {
+        Meaning::Argument(j) => {
             put_one(out, o, 0x59, cells::index(rows, j));
             0
         }
-        6 => {
+        Meaning::Native(j) => {
             put_native(tree, rows, j, k, a, out, o);
             0
         }
-        _ => put_jump(tree, rows, kind, j, k, a, out, o, allowed),
+        Meaning::Parent(j) => {
+            let jump = calls::parent(cells::level(rows, j), allowed);
+            put_def(tree, rows, j, k, a, out, o, jump)
+        }
+        Meaning::Sibling(j) => {
+            let jump = calls::sibling(cells::level(rows, j), last(rows, j), allowed);
+            put_def(tree, rows, j, k, a, out, o, jump)
+        }
+        Meaning::Outer(j) => {
+            let jump = calls::outer(last(rows, j));
+            put_def(tree, rows, j, k, a, out, o, jump)
+        }
     }
 }
 
 // The error of a call that means nothing.
-pub fn fail(rows: &[u64], f: finds::Found, a: usize, st: &mut [usize; 3], out: &mut [u8])
+pub fn fail(rows: &[u64], f: Meaning, a: usize, st: &mut [usize; 3], out: &mut [u8])
     requires { (4 ≤ length rows.now) × (ers st.old + 11 < 2 ^ 64) }
-    ensures { Failed rows.now f a st.old st.new out.old out.new }
+    ensures { Failed rows.now (numbers f) a st.old st.new out.old out.new }
 {
-    let kind = f.kind;
-    match kind {
-        0 => put_filter_error(
-            out,
-            state::insert_error(st, 11),
-            rows[cells::HOME] as usize,
-            f.at,
-            f.len,
-            a,
-        ),
-        1 => put_error(
-            out,
-            state::insert_error(st, 9),
-            0x28,
-            rows[cells::HOME] as usize,
-            f.at,
-            f.len,
-        ),
+    let home = rows[cells::HOME] as usize;
+    match f {
+        Meaning::NoFilter { at, len } => {
+            put_filter_error(out, state::insert_error(st, 11), home, at, len, a)
+        }
+        Meaning::NoModule { at, len } => {
+            put_error(out, state::insert_error(st, 9), 0x28, home, at, len)
+        }
         _ => {}
     }
 }

@@ -24,6 +24,7 @@ use Rattle.compiler.specs.FormsB.Whole as whole
 use Rattle.compiler.specs.FormsB.Asks as asks_b
 use Prim.Native.Nat.{ℕ, ◌-◌}
 use mathlib.Core.Path.{sym, ◌∙◌}
+use Rattle.finds.specs.Numbers.{numbers}
 use Rattle.compiler.specs.FormsC.Paths as forms_paths
 use Rattle.compiler.specs.FormsD.Calls.{membered, call-here, call-members, call-name, call-short, call_known, call-reserve, call-ready, call-fail, call-place, call-put, call-did}
 use Rattle.compiler.specs.FormsD.Defs.{ready-cells, def-ready, def_body, def-within, further, def-close, def-did}
@@ -57,7 +58,7 @@ pub args-overflow_add-k-in-loop-i : goal.args-overflow_add-k-in-loop-i
 args-overflow_add-k-in-loop-i t c = let o = c.loop-i.invariant in omega (arith, o.some.1.spare, o.some.1.seen.small)
 
 pub args-note-requires : goal.args-note-requires
-args-note-requires t c = passing-note _ _ _ _ _ _ _ _ _ _ _ _ c.loop-i.invariant _ _ _ _ c.iterm.ensures c.loop-i-test.true _ refl
+args-note-requires t c = let w = passing-note _ _ _ _ _ _ _ _ _ _ _ _ c.loop-i.invariant _ _ _ _ c.iterm.ensures c.loop-i-test.true _ refl in (w.0, w.1)
 
 pub args-end_of-p-requires : goal.args-end_of-p-requires
 args-end_of-p-requires t c = passing-fits _ _ _ _ _ _ _ _ _ _ _ _ c.loop-i.invariant c.loop-i-test.true
@@ -325,19 +326,19 @@ pub call-reserve-requires : goal.call-reserve-requires
 call-reserve-requires t c = let y = c.requires.0 in
     let h = membered _ _ _ _ _ c.end_of.ensures c.members-a.ensures in
     let k = call_known _ _ _ _ c.requires.3 c.requires.1 c.end_of-q.ensures h in
-    call-reserve _ _ _ _ _ _ _ _ c.meaning-f.result _ k y c.requires.2 c.call_width-w.ensures
+    call-reserve _ _ _ _ _ _ _ _ (numbers c.meaning-f.result) _ k y c.requires.2 c.call_width-w.ensures
 
 pub call-args-requires : goal.call-args-requires
 call-args-requires t c = let y = c.requires.0 in
     let h = membered _ _ _ _ _ c.end_of.ensures c.members-a.ensures in
     let k = call_known _ _ _ _ c.requires.3 c.requires.1 c.end_of-q.ensures h in
-    (omega (arith, c.decreases, k.low, k.high, k.fits), call-ready _ _ _ _ _ _ _ _ c.meaning-f.result _ _ k y c.call_width-w.ensures c.reserve.ensures)
+    (omega (arith, c.decreases, k.low, k.high, k.fits), call-ready _ _ _ _ _ _ _ _ (numbers c.meaning-f.result) _ _ k y c.call_width-w.ensures c.reserve.ensures)
 
 pub call-fail-requires : goal.call-fail-requires
 call-fail-requires t c = let y = c.requires.0 in
     let h = membered _ _ _ _ _ c.end_of.ensures c.members-a.ensures in
     let k = call_known _ _ _ _ c.requires.3 c.requires.1 c.end_of-q.ensures h in
-    call-fail _ _ _ _ _ _ _ _ _ c.meaning-f.result _ _ _ _ _ k y c.call_width-w.ensures c.reserve.ensures c.args-2.ensures
+    call-fail _ _ _ _ _ _ _ _ _ (numbers c.meaning-f.result) _ _ _ _ _ k y c.call_width-w.ensures c.reserve.ensures c.args-2.ensures
 
 pub call-place-requires : goal.call-place-requires
 call-place-requires t c = let y = c.requires.0 in
@@ -1061,7 +1062,7 @@ pub obj_entry-note-requires : goal.obj_entry-note-requires
 obj_entry-note-requires t c =
     let b = c.args.tree.now in
     let y = c.requires.0 in
-    (omega (arith, noting.note-room b _ _ _ _ _ y (omega arith), c.iterm.ensures.paid.same), noting.note-few b _ _ _ _ _ y (omega arith), omega arith)
+    (omega (arith, noting.note-room b _ _ _ _ _ y (omega arith), c.iterm.ensures.paid.same), noting.note-few b _ _ _ _ _ y (omega arith))
 
 pub obj_entry-overflow_add-k : goal.obj_entry-overflow_add-k
 obj_entry-overflow_add-k t c =
@@ -1192,8 +1193,8 @@ open_def-leave-requires t c = let y = c.requires.0 in
     let o = open-known _ _ _ _ _ c.requires.1 c.end_of.ensures c.params-u.ensures in
     open-leave _ _ _ _ _ _ _ _ y o refl _ c.enter.ensures _ _ _ _ c.args.allowed _ _ c.bit.ensures c.iterm-t.ensures
 
-pub open_def-overflow_add-q-3 : goal.open_def-overflow_add-q-3
-open_def-overflow_add-q-3 t c = let y = c.requires.0 in omega (arith, y.small, y.within, y.order)
+pub open_def-overflow_add-row : goal.open_def-overflow_add-row
+open_def-overflow_add-row t c = let y = c.requires.0 in omega (arith, y.small, y.within, y.order)
 
 pub open_def-push-requires : goal.open_def-push-requires
 open_def-push-requires t c = let y = c.requires.0 in
@@ -1311,7 +1312,7 @@ pub own_key-note-requires : goal.own_key-note-requires
 own_key-note-requires t c =
     let b = c.args.tree.now in
     let y = c.requires.0 in
-    (omega (arith, noting.note-room b _ _ _ _ _ y (omega arith), c.iterm.ensures.paid.same), noting.note-few b _ _ _ _ _ y (omega arith), omega arith)
+    (omega (arith, noting.note-room b _ _ _ _ _ y (omega arith), c.iterm.ensures.paid.same), noting.note-few b _ _ _ _ _ y (omega arith))
 
 pub own_key-returns : goal.own_key-returns
 own_key-returns t c =
@@ -1420,7 +1421,7 @@ own_var-note-requires t c =
     let b = c.args.tree.now in
     let l = c.requires.0.1 in
     let y = c.requires.0.2 in
-    (omega (arith, noting.note-room b _ _ _ _ _ y (omega (arith, l)), c.iterm.ensures.paid.same), noting.note-few b _ _ _ _ _ y (omega (arith, l)), omega arith)
+    (omega (arith, noting.note-room b _ _ _ _ _ y (omega (arith, l)), c.iterm.ensures.paid.same), noting.note-few b _ _ _ _ _ y (omega (arith, l)))
 
 pub own_var-returns : goal.own_var-returns
 own_var-returns t c =
@@ -1470,7 +1471,7 @@ pairs-note-requires t c =
     let v = pairing.pairs-ready _ _ _ _ _ _ _ _ _ _ _ _ _ _ y m in
     let h = tag-yes c.args.tree.now c.loop-a.p c.args.z 0xB8 (sym c.is_tag.ensures ∙ c.loop-a-test.true) in
     let a = pairing.pair-test _ _ _ _ _ _ v h.0 h.1 m.some in
-    asks.note-laid _ _ _ _ _ _ _ _ _ _ _ _ _ _ v h.0 (omega (arith, a.2)) c.iterm-t.ensures refl
+    let w = asks.note-laid _ _ _ _ _ _ _ _ _ _ _ _ _ _ v h.0 (omega (arith, a.2)) c.iterm-t.ensures refl in (w.0, w.1)
 
 pub pairs-overflow_add-p-in-loop-a : goal.pairs-overflow_add-p-in-loop-a
 pairs-overflow_add-p-in-loop-a t c =
@@ -1586,7 +1587,7 @@ pub part-note-requires : goal.part-note-requires
 part-note-requires t c =
     let b = c.args.tree.now in
     let y = c.requires.0 in
-    (omega (arith, noting.note-room b _ _ _ _ _ y (omega arith), c.iterm.ensures.paid.same), noting.note-few b _ _ _ _ _ y (omega arith), omega arith)
+    (omega (arith, noting.note-room b _ _ _ _ _ y (omega arith), c.iterm.ensures.paid.same), noting.note-few b _ _ _ _ _ y (omega arith))
 
 pub part-returns-then-tree-q : goal.part-returns-then-tree-q
 part-returns-then-tree-q t c =
@@ -1628,7 +1629,7 @@ pub part-note-requires-2 : goal.part-note-requires-2
 part-note-requires-2 t c =
     let b = c.args.tree.now in
     let y = c.requires.0 in
-    (omega (arith, noting.note-room b _ _ _ _ _ y (omega arith), c.bound.ensures.paid.same), noting.note-few b _ _ _ _ _ y (omega arith), omega arith)
+    (omega (arith, noting.note-room b _ _ _ _ _ y (omega arith), c.bound.ensures.paid.same), noting.note-few b _ _ _ _ _ y (omega arith))
 
 pub part-overflow_add-q-3 : goal.part-overflow_add-q-3
 part-overflow_add-q-3 t c =
@@ -1829,7 +1830,7 @@ pattern-bounds-tree-q t c =
 pub pattern-note-requires : goal.pattern-note-requires
 pattern-note-requires t c =
     let y = c.requires.0 in
-    (pats.pattern-room c.args.tree.now c.args.rows.now c.args.k c.args.q c.requires.2.0 c.requires.2.1 c.requires.1, c.requires.3, omega arith)
+    (pats.pattern-room c.args.tree.now c.args.rows.now c.args.k c.args.q c.requires.2.0 c.requires.2.1 c.requires.1, c.requires.3)
 
 pub pattern-overflow_add-result : goal.pattern-overflow_add-result
 pattern-overflow_add-result t c =
@@ -1844,7 +1845,7 @@ pattern-returns-then-tag t c =
 pub pattern-note-requires-2 : goal.pattern-note-requires-2
 pattern-note-requires-2 t c =
     let y = c.requires.0 in
-    (pats.pattern-room c.args.tree.now c.args.rows.now c.args.k c.args.q c.requires.2.0 c.requires.2.1 c.requires.1, c.requires.3, omega arith)
+    (pats.pattern-room c.args.tree.now c.args.rows.now c.args.k c.args.q c.requires.2.0 c.requires.2.1 c.requires.1, c.requires.3)
 
 pub pattern-overflow_add-k : goal.pattern-overflow_add-k
 pattern-overflow_add-k t c =
@@ -2251,7 +2252,7 @@ strings-note-requires t c =
     let b = c.args.tree.now in
     let v = c.loop-p.invariant in
     let w = forms_strings.strings-next b _ _ _ _ _ _ _ _ _ _ _ v c.loop-p-test.true in
-    (omega (arith, noting.note-room b _ _ _ _ _ w.0 (omega arith), c.string.ensures.paid.same), noting.note-few b _ _ _ _ _ w.0 (omega arith), omega arith)
+    (omega (arith, noting.note-room b _ _ _ _ _ w.0 (omega arith), c.string.ensures.paid.same), noting.note-few b _ _ _ _ _ w.0 (omega arith))
 
 pub strings-end_of-p-requires : goal.strings-end_of-p-requires
 strings-end_of-p-requires t c =

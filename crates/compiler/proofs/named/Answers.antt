@@ -1,10 +1,12 @@
 use Rattle.compiler.specs.FormsA.Leaves as leaves
 use Rattle.compiler.specs.FormsA.Asks as asks
+use mathlib.Core.Path.{refl}
+use Rattle.finds.specs.Gives.{gives-some, gives-none}
 use native.Mathlib.Omega.{arith}
 use Rattle.compiler.proofs.named.Goals as goal
 
-pub find-j-requires : goal.find-j-requires
-find-j-requires c =
+pub find-requires : goal.find-requires
+find-requires c =
     let y = c.requires.0.1 in
     let f = asks.stands-fits _ _ c.requires.1 in
     ((y.view, c.requires.0.0, y.seen), omega (arith, leaves.part_length c.args.tree.now c.args.p c.end_of-z.result c.end_of-z.ensures f, y.small, f), leaves.class-small _ _ _ c.requires.3)
@@ -15,11 +17,11 @@ bare-requires c =
     let f = asks.stands-fits _ _ c.requires.1 in
     asks.lost-fits _ _ _ _ _ _ _ _ _ y c.requires.2 c.insert_error.ensures.1
 
-pub returns-then-j-eq0 : goal.returns-then-j-eq0
-returns-then-j-eq0 c =
+pub returns-in_default : goal.returns-in_default
+returns-in_default c =
     let y = c.requires.0.1 in
     let f = asks.stands-fits _ _ c.requires.1 in
-    λ k al. leaves.lost-code _ _ _ _ _ _ _ _ _ _ _ _ _ _ _ _ _ al c.requires.3 y.three (omega (arith, y.offs)) c.end_of-z.ensures f c.find-j.ensures c.if-j-eq0.true c.insert_error.ensures c.put_error.ensures c.bare.ensures
+    λ k al. leaves.lost-code _ _ _ _ _ _ _ _ _ _ _ _ _ _ _ _ _ al c.requires.3 y.three (omega (arith, y.offs)) c.end_of-z.ensures f (gives-none _ _ c.find.ensures c.in_default.is) refl c.insert_error.ensures c.put_error.ensures c.bare.ensures
 
 pub alone-requires : goal.alone-requires
 alone-requires c =
@@ -31,7 +33,8 @@ pub index-requires : goal.index-requires
 index-requires c =
     let y = c.requires.0.1 in
     let f = asks.stands-fits _ _ c.requires.1 in
-    leaves.named-index _ _ _ _ _ y.view c.requires.0.0 y.seen c.find-j.ensures c.if-j-eq0.false
+    let g = gives-some _ _ _ c.find.ensures c.in-Some.is in
+    leaves.named-index _ _ _ _ _ y.view c.requires.0.0 y.seen g.0 g.1
 
 pub put_one-requires : goal.put_one-requires
 put_one-requires c =
@@ -43,4 +46,5 @@ pub returns : goal.returns
 returns c =
     let y = c.requires.0.1 in
     let f = asks.stands-fits _ _ c.requires.1 in
-    λ k al. leaves.var-code _ _ _ _ _ _ _ _ _ _ _ _ _ _ _ al c.requires.3 y.three (omega (arith, y.offs)) c.end_of-z.ensures c.find-j.ensures c.if-j-eq0.false c.index.ensures c.alone.ensures c.put_one.ensures
+    let g = gives-some _ _ _ c.find.ensures c.in-Some.is in
+    λ k al. leaves.var-code _ _ _ _ _ _ _ _ _ _ _ _ _ _ _ al c.requires.3 y.three (omega (arith, y.offs)) c.end_of-z.ensures g.0 g.1 c.index.ensures c.alone.ensures c.put_one.ensures

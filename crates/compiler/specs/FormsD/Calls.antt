@@ -25,7 +25,7 @@ use Rattle.reads.specs.Shapes.{CallAt, on_call, terms-many}
 use Rattle.cells.specs.Cells.{View, Seen, env_of, outer}
 use Rattle.cells.specs.Notes.{numbers_of}
 use Rattle.rows.specs.Kept.{seen-kept, heads-below}
-use Rattle.finds.specs.declared.Found as Hit
+use Rattle.finds.specs.Hits as Hit
 use Rattle.finds.specs.Means.{FoundIs, Means}
 use Rattle.finds.specs.Under.{call_length, args-made, found-arity, found-width, missing-kind}
 use Rattle.records.specs.Calls.{CallReady, CallPut, lost_errs, Failed, call-errs}
