@@ -18,6 +18,7 @@ ghost use Rattle.rules.specs.Outs.{arity, left_allows, right_allows, slot, bare}
 ghost use Rattle.rules.specs.Listing.{rec_bytes};
 ghost use Rattle.rules.specs.Rules.{term, called};
 ghost use Rattle.reads.specs.Bytes.{past, TermAt, PatternAt, DefAt};
+ghost use Rattle.reads.specs.Kinds.{fold_number};
 ghost use Rattle.reads.specs.Parts.{NoHead};
 ghost use Rattle.reads.specs.Shapes.{EntryAt};
 ghost use Rattle.puts.specs.State.{num, off, ers, start_of, spot_of, next_of, Put, Own};
@@ -34,6 +35,7 @@ use puts::put::{put_bare, put_one};
 use puts::state::{alone, insert, insert_error, place, reserve};
 use puts::{calls, put, state};
 use reads::bytes::{end_of, members};
+use reads::width::FoldKind;
 use reads::{bytes, width};
 
 // ---- terms
@@ -645,7 +647,7 @@ fn update(
     allowed: u64,
     f: width::Fold,
 ) -> Updated
-    requires { Ready tree.now rows.old i f.u (end_of tree.now p) st.old × (k ≤ i) × ((vw : View) × Seen vw tree.now rows.old k) × Noted tree.now rows.old k i × Stands tree.now f.u × Folding tree.now p f.x f.u f.a f.kind }
+    requires { Ready tree.now rows.old i f.u (end_of tree.now p) st.old × (k ≤ i) × ((vw : View) × Seen vw tree.now rows.old k) × Noted tree.now rows.old k i × Stands tree.now f.u × Folding tree.now p f.x f.u f.a (fold_number f.kind) }
     ensures { Updating tree.now p f.u f.a rows.old rows.new k i st.old st.new out.old out.new allowed result }
 {
     let c = rows[cells::IN_VIEW];
@@ -669,13 +671,10 @@ fn project(
     allowed: u64,
     f: width::Fold,
 ) -> u64
-    requires { Ready tree.now rows.old k (end_of tree.now f.u) (end_of tree.now p) st.old × Folding tree.now p f.x f.u f.a f.kind }
+    requires { Ready tree.now rows.old k (end_of tree.now f.u) (end_of tree.now p) st.old × Folding tree.now p f.x f.u f.a (fold_number f.kind) }
     ensures { Projected tree.now p f.u f.a rows.old rows.new k st.old st.new out.old out.new allowed result }
 {
-    if f.kind == 2 {
-        return iterm(tree, end_of(tree, f.u), rows, k, st, out, allowed);
-    }
-    if f.kind == 3 {
+    let Some(kind) = f.kind else {
         put::put_filter_error(
             out,
             insert_error(st, 11),
@@ -685,6 +684,9 @@ fn project(
             f.a,
         );
         return 0;
+    };
+    if let FoldKind::Projected = kind {
+        return iterm(tree, end_of(tree, f.u), rows, k, st, out, allowed);
     }
     0
 }

@@ -8,3 +8,4 @@ pub mod Subs
 pub mod Texts
 pub mod Bounds
 pub mod Places
+pub mod Kinds

@@ -6,6 +6,7 @@ ghost use Rattle.tree.specs.Tree.{Term, Pattern, Parts, Part, StrParts, StrPart,
 ghost use Rattle.tree.specs.Form.{f_part, f_parts, f_str_part, f_str_parts, f_entries};
 ghost use Rattle.reads.specs.Bytes.{TermAt, PatternAt};
 ghost use Rattle.reads.specs.Widths.{OwnWidth, pat_width, part_width, parts_width, fold_kind, fold_width, int_of, num_width, op_width, str_width, strings_width, entries_width, is_plain};
+ghost use Rattle.reads.specs.Kinds.{fold_number};
 ghost use Rattle.reads.specs.Folds.{FoldOf};
 
 use crate::bytes;
@@ -86,8 +87,15 @@ pub fn binary_width(b: &[u8], p: usize) -> usize
 
 // ---- folds
 
-// A fold: the places of source, pattern, init and update, how many arguments it has, what it is (0 reduce, 1 foreach, 2 foreach with a projection,
-// 3 none), and the length of its record.
+// What a fold is, by its name and by how many arguments it has.
+#[derive(Clone, Copy, PartialEq, Eq)]
+pub enum FoldKind {
+    Reduce,
+    Foreach,
+    Projected,
+}
+
+// A fold: the places of source, pattern, init and update, how many arguments it has, what it is, if it is any of these, and the length of its record.
 #[derive(Clone, Copy)]
 pub struct Fold {
     pub x: usize,
@@ -95,54 +103,31 @@ pub struct Fold {
     pub i: usize,
     pub u: usize,
     pub a: usize,
-    pub kind: u8,
+    pub kind: Option<FoldKind>,
     pub w: usize,
 }
 
-fn kind_of_two(b: &[u8], p: usize) -> u8
-    requires { end_of b.now p ≤ length b.now }
-    ensures { result ≡ fold_kind (text_of b.now p) 2 }
-{
-    if is_text(b, p, b"reduce") {
-        return 0;
-    }
-    if is_text(b, p, b"foreach") {
-        return 1;
-    }
-    3
-}
-
-fn kind_of_three(b: &[u8], p: usize) -> u8
-    requires { end_of b.now p ≤ length b.now }
-    ensures { result ≡ fold_kind (text_of b.now p) 3 }
-{
-    if is_text(b, p, b"foreach") {
-        return 2;
-    }
-    3
-}
-
 // "`reduce` needs two, `foreach` two or three"
-fn fold_kind(b: &[u8], p: usize, a: usize) -> u8
+fn fold_kind(b: &[u8], p: usize, a: usize) -> Option<FoldKind>
     requires { end_of b.now p ≤ length b.now }
-    ensures { result ≡ fold_kind (text_of b.now p) a }
+    ensures { fold_number result ≡ fold_kind (text_of b.now p) a }
 {
     match a {
-        2 => kind_of_two(b, p),
-        3 => kind_of_three(b, p),
-        _ => 3,
+        2 if is_text(b, p, b"reduce") => Some(FoldKind::Reduce),
+        2 if is_text(b, p, b"foreach") => Some(FoldKind::Foreach),
+        3 if is_text(b, p, b"foreach") => Some(FoldKind::Projected),
+        _ => None,
     }
 }
 
-fn fold_width(b: &[u8], q: usize, kind: u8) -> usize
+fn fold_width(b: &[u8], q: usize, kind: Option<FoldKind>) -> usize
     requires { ((x : Pattern) × PatternAt b.now x q) × (9 ≤ q) }
-    ensures { ((x : Pattern) → PatternAt b.now x q → result ≡ fold_width kind (pat_width x)) × (result + 2 * q ≤ 2 * end_of b.now q + 10) }
+    ensures { ((x : Pattern) → PatternAt b.now x q → result ≡ fold_width (fold_number kind) (pat_width x)) × (result + 2 * q ≤ 2 * end_of b.now q + 10) }
 {
-    match kind {
-        3 => 3,
-        2 => 12 + pattern_width(b, q),
-        _ => 10 + pattern_width(b, q),
-    }
+    let Some(kind) = kind else {
+        return 3;
+    };
+    10 + pattern_width(b, q) + 2 * usize::from(kind == FoldKind::Projected)
 }
 
 // The Fold at p.
@@ -154,23 +139,12 @@ pub fn fold_of(b: &[u8], p: usize) -> Fold
     let q = end_of(b, x);
     let i = end_of(b, q);
     let a = members(b, i, end_of(b, p));
-    if a < 2 {
-        return Fold {
-            x,
-            q,
-            i,
-            u: i,
-            a,
-            kind: 3,
-            w: 3,
-        };
-    }
     let kind = fold_kind(b, p + 3, a);
     Fold {
         x,
         q,
         i,
-        u: end_of(b, i),
+        u: if a < 2 { i } else { end_of(b, i) },
         a,
         kind,
         w: fold_width(b, q, kind),

@@ -2,7 +2,7 @@
 
 #![tactic(auto)]
 
-ghost use Rattle.std.specs.Prelude.{◌≡◌, true, false, ◌⊎◌, List, [], ◌∷◌, ◌++◌, ℕ, ◌+◌, ◌-◌, ◌*◌, ◌^◌, ◌≤◌, ◌<◌, length, get_or};
+ghost use Rattle.std.specs.Prelude.{◌≡◌, true, false, ◌⊎◌, List, [], ◌∷◌, ◌++◌, ℕ, ◌+◌, ◌-◌, ◌*◌, ◌^◌, ◌≤◌, ◌<◌, length, get_or, Some};
 ghost use Rattle.std.proofs.Math.Option.{some};
 ghost use Rattle.fields.specs.Number.{number};
 ghost use Rattle.fields.specs.Field.{field};
@@ -16,7 +16,9 @@ ghost use Rattle.rules.specs.Listing.{flag, node_bytes, fold_bytes, opt_number, 
 ghost use Rattle.rules.specs.Outs.{binary};
 ghost use Rattle.reads.specs.Bytes.{PatternAt};
 ghost use Rattle.reads.specs.Widths.{pat_width, parts_width, fold_width};
+ghost use Rattle.reads.specs.Kinds.{fold_number};
 ghost use Rattle.reads.specs.Shapes.{PartAt, StrPartAt};
+ghost use Rattle.puts.specs.Calls.{call_number};
 ghost use Rattle.puts.specs.State.{num, off, ers};
 ghost use Rattle.cells.specs.Cells.{number_at, last_at, before_at};
 ghost use Rattle.cells.specs.Notes.{pat_at, steps_at, pairs_at, string_node, summed};
@@ -36,6 +38,7 @@ use puts::put::{
 };
 use puts::{calls, state};
 use reads::bytes::{end_of, members};
+use reads::width::FoldKind;
 use reads::{bytes, width};
 
 fn flag(t: bool) -> u8
@@ -165,15 +168,14 @@ pub fn put_piped(
     put_number(out, s.o, b);
 }
 
-// What a fold is: 0, 1, or 2 with the number of its projection.
-fn put_folding(out: &mut [u8], o: usize, kind: u8, n: usize)
-    requires { (kind < 3) × ((kind ≡ 2) → (o + 3 < 2 ^ 64)) }
-    ensures { out.new ≡ overlay out.old o (fold_bytes 2 (folding_of kind n)) }
+// What a fold is, with the number of its projection if it has one.
+fn put_folding(out: &mut [u8], o: usize, kind: FoldKind, n: usize)
+    requires { (fold_number (Some kind) ≡ 2) → (o + 3 < 2 ^ 64) }
+    ensures { out.new ≡ overlay out.old o (fold_bytes 2 (folding_of (fold_number (Some kind)) n)) }
 {
-    put1(out, o, kind);
-    if kind == 2 {
+    put1(out, o, kind as u8);
+    if let FoldKind::Projected = kind {
         put_number(out, o + 1, n);
-        return;
     }
 }
 
@@ -190,18 +192,18 @@ pub fn put_fold(
     c: usize,
     d: usize,
 )
-    requires { HoldsFold tree.now rows.now f.q k o f.kind f.w }
-    ensures { (x : Pattern) → PatternAt tree.now x f.q → f.w ≡ fold_width f.kind (pat_width x) → out.new ≡ overlay out.old o (node_bytes 2 (fold_node f.kind (pat_at rows.now x k) a b c d)) }
+    requires { HoldsFold tree.now rows.now f.q k o (fold_number f.kind) f.w }
+    ensures { (x : Pattern) → PatternAt tree.now x f.q → f.w ≡ fold_width (fold_number f.kind) (pat_width x) → out.new ≡ overlay out.old o (node_bytes 2 (fold_node (fold_number f.kind) (pat_at rows.now x k) a b c d)) }
 {
-    if f.kind == 3 {
+    let Some(kind) = f.kind else {
         put_bare(out, o, 0x50);
         return;
-    }
+    };
     put_head(out, o, 0x6A, f.w - 3, a);
     let s = put_pattern(tree, f.q, rows, k, out, o + 5);
     put_number(out, s.o, b);
     put_number(out, s.o + 2, c);
-    put_folding(out, s.o + 4, f.kind, d);
+    put_folding(out, s.o + 4, kind, d);
 }
 
 // ---- paths
@@ -441,12 +443,12 @@ fn put_def(
     jump: calls::Jump,
 ) -> u64
     requires { ArgsReady tree.now rows.now j k a o 10 × (before_at rows.now j ≤ get_or rows.now 1 0) }
-    ensures { (out.new ≡ overlay out.old o (def_bytes (number_at rows.now j) (args_at tree.now rows.now j k a) (get_or rows.now 1 0 - before_at rows.now j) jump.call.number)) × (result ≡ jump.tail) }
+    ensures { (out.new ≡ overlay out.old o (def_bytes (number_at rows.now j) (args_at tree.now rows.now j k a) (get_or rows.now 1 0 - before_at rows.now j) (call_number jump.call))) × (result ≡ jump.tail) }
 {
     put_head(out, o, 0x5A, 7 + 3 * a, number(rows, j));
     put_args(tree, rows, j, k, a, out, o + 5);
     put_number(out, o + 7 + 3 * a, cells::skip(rows, j));
-    put1(out, o + 9 + 3 * a, jump.call.number);
+    put1(out, o + 9 + 3 * a, jump.call.number());
     jump.tail
 }
 

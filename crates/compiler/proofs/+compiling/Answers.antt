@@ -4,6 +4,7 @@ use lib.ListN.{length}
 use mathlib.Core.Path.{◌≡◌, refl, sym, subst, ◌∙◌}
 use native.Mathlib.Omega.{arith}
 use mathlib.Core.Logic.{inl, inr}
+use Rattle.reads.specs.Kinds.{some-kind, no-kind, kind-is, no-projection}
 use Rattle.reads.specs.Shapes.{tag-yes, tag-no}
 use lib.ListN.{length, get_or}
 use Rattle.tree.specs.Rose.{end_of}
@@ -2004,13 +2005,13 @@ pub project-iterm-requires : goal.project-iterm-requires
 project-iterm-requires t c =
     let y = c.requires.0 in
     let g = c.requires.1 in
-    (omega (arith, c.decreases, c.end_of.ensures, g.behind, y.order, y.within), asks_b.project-ask _ _ _ _ _ _ _ _ _ y g _ c.if-f-eq2.true c.end_of.ensures)
+    (omega (arith, c.decreases, c.end_of.ensures, g.behind, y.order, y.within), asks_b.project-ask _ _ _ _ _ _ _ _ _ y g _ (kind-is _ _ _ c.in-Some.is c.in-Projected.is) c.end_of.ensures)
 
-pub project-returns-then-f-eq2 : goal.project-returns-then-f-eq2
-project-returns-then-f-eq2 t c =
+pub project-returns-in-Projected : goal.project-returns-in-Projected
+project-returns-in-Projected t c =
     let y = c.requires.0 in
     let g = c.requires.1 in
-    asks_b.project-ret _ _ _ _ _ _ _ _ _ y g _ c.if-f-eq2.true c.end_of.ensures _ _ _ _ _ _ c.iterm.ensures
+    asks_b.project-ret _ _ _ _ _ _ _ _ _ y g _ (kind-is _ _ _ c.in-Some.is c.in-Projected.is) c.end_of.ensures _ _ _ _ _ _ c.iterm.ensures
 
 pub project-insert_error-requires : goal.project-insert_error-requires
 project-insert_error-requires t c =
@@ -2036,8 +2037,8 @@ project-overflow_sub-f t c =
     let g = c.requires.1 in
     omega (arith, g.source)
 
-pub project-overflow_sub-f-then-f-eq3 : goal.project-overflow_sub-f-then-f-eq3
-project-overflow_sub-f-then-f-eq3 t c =
+pub project-overflow_sub-f-in_default : goal.project-overflow_sub-f-in_default
+project-overflow_sub-f-in_default t c =
     let y = c.requires.0 in
     let g = c.requires.1 in
     omega (arith, g.source)
@@ -2048,17 +2049,18 @@ project-put_filter_error-requires t c =
     let g = c.requires.1 in
     omega (arith, y.errs, c.insert_error.ensures.0)
 
-pub project-returns-then-f-eq3 : goal.project-returns-then-f-eq3
-project-returns-then-f-eq3 t c =
+pub project-returns-in_default : goal.project-returns-in_default
+project-returns-in_default t c =
     let y = c.requires.0 in
     let g = c.requires.1 in
-    folds.project-fail _ _ _ _ _ _ _ _ _ y g _ _ _ _ _ _ _ _ c.if-f-eq3.true refl refl refl c.insert_error.ensures.0 c.insert_error.ensures.1 c.put_filter_error.ensures
+    folds.project-fail _ _ _ _ _ _ _ _ _ y g _ _ _ _ _ _ _ _ (no-kind _ c.in_default.is) refl refl refl c.insert_error.ensures.0 c.insert_error.ensures.1 c.put_filter_error.ensures
 
 pub project-returns : goal.project-returns
 project-returns t c =
     let y = c.requires.0 in
     let g = c.requires.1 in
-    folds.project-none _ _ _ _ _ _ _ _ _ y g _ _ c.if-f-eq2.false c.if-f-eq3.false
+    let o = some-kind _ _ c.in-Some.is in
+    folds.project-none _ _ _ _ _ _ _ _ _ y g _ _ (no-projection _ _ c.in-Some.is c.in_default-kind.not-Projected) (λ f. omega (arith, o, f))
 
 pub quoted-end_of-z-requires : goal.quoted-end_of-z-requires
 quoted-end_of-z-requires t c =

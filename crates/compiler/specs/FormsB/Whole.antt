@@ -18,6 +18,7 @@ use Rattle.reads.specs.declared.width.Fold.{Fold}
 use Rattle.reads.specs.Bytes.{TermAt, PatternAt, name_at}
 use Rattle.reads.specs.Widths.{pat_width, fold_kind, fold_width}
 use Rattle.reads.specs.Lengths.{own-fold}
+use Rattle.reads.specs.Kinds.{fold_number}
 use Rattle.reads.specs.Folds.{FoldOf}
 use Rattle.reads.specs.Shapes.{FoldAt, on-fold, on-arity-cons}
 use Rattle.puts.specs.State.{num, off, ers, late, start_of, spot_of, next_of, Put, Own}
@@ -167,9 +168,9 @@ module _ (b : List ℕ) (p : ℕ) (f : Fold) (e : get_or b p 0 ≡ 0xAC) (g : St
   stands : Stands b f.x × ((x : Pattern) × PatternAt b x f.q) × Stands b f.i × Stands b f.u
   stands = on-two (λ _. Stands b f.x × ((x : Pattern) × PatternAt b x f.q) × Stands b f.i × Stands b f.u) (λ u x t₁ t₂ ts h. ((u, h.source), (x, h.pat), (t₁, h.init), (t₂, h.update))) g.0 g.1
 
-  folding : pieces.Folding b p f.x f.u f.a f.kind
+  folding : pieces.Folding b p f.x f.u f.a (fold_number f.kind)
   folding =
-      on-two (λ _. pieces.Folding b p f.x f.u f.a f.kind)
+      on-two (λ _. pieces.Folding b p f.x f.u f.a (fold_number f.kind))
       (λ u x t₁ t₂ ts h. record { source = fo.source; name = h.all.name; fits = h.all.fits; behind = omega (arith, fo.source, fo.pat, fo.init, fo.some two); kinds = fo.kind; rest = (ts, h.rest, h.many) }) g.0 g.1
 
   module _ (s : List ℕ) (k o : ℕ) (st st₁ : List ℕ) (y : Ready b s k (p + 1) (end_of b p) st) (r₁ : st₁ ≡ set st 1 (start_of o (off st) f.w)) where
@@ -251,7 +252,7 @@ module _ (b : List ℕ) (p : ℕ) (f : Fold) (e : get_or b p 0 ≡ 0xAC) (g : St
                     (kind-kept s₂ s₃ i j m₃.paid.kept h ∙ c.0, λ z. subst (λ (r : ℕ). end_of b r ≤ length b) (sym v) (c.1 (λ q. z (v ∙ q))));
               }
 
-          pub fold-update : Ready b s₃ i f.u (end_of b p) st₄ × (k ≤ i) × ((vw : View) × Seen vw b s₃ k) × Noted b s₃ k i × Stands b f.u × pieces.Folding b p f.x f.u f.a f.kind
+          pub fold-update : Ready b s₃ i f.u (end_of b p) st₄ × (k ≤ i) × ((vw : View) × Seen vw b s₃ k) × Noted b s₃ k i × Stands b f.u × pieces.Folding b p f.x f.u f.a (fold_number f.kind)
           fold-update =
               let a = fold-places in (
                 subst (λ (j : ℕ). Ready b s₃ i j (end_of b p) st₄) (sym a.update)
@@ -274,12 +275,12 @@ module _ (b : List ℕ) (p : ℕ) (f : Fold) (e : get_or b p 0 ≡ 0xAC) (g : St
             t₁ : Stored st st₁ (num st) (start_of o (off st) f.w) (ers st)
             t₁ = set-off st st₁ (start_of o (off st) f.w) y.three r₁
 
-            pub fold-put : Placed o st → x ≡ spot_of o (off st₅) → HoldsFold b s₄ f.q k x f.kind f.w × (off st₅ + f.w < 2 ^ 64)
+            pub fold-put : Placed o st → x ≡ spot_of o (off st₅) → HoldsFold b s₄ f.q k x (fold_number f.kind) f.w × (off st₅ + f.w < 2 ^ 64)
             fold-put at e₀ =
                 let h = fold-places in
                 let v = seen₁ y.view y.seen in
-                let z : (z : Pattern) × PatternAt b z f.q × (f.w ≡ fold_width f.kind (pat_width z)) =
-                on-two (λ _. (z : Pattern) × PatternAt b z f.q × (f.w ≡ fold_width f.kind (pat_width z))) (λ t z t₁' t₂' ts g₀. (z, g₀.pat, (fo.is t z (ts_cons t₁' (ts_cons t₂' ts)) g₀.all).1)) g.0 g.1 in
+                let z : (z : Pattern) × PatternAt b z f.q × (f.w ≡ fold_width (fold_number f.kind) (pat_width z)) =
+                on-two (λ _. (z : Pattern) × PatternAt b z f.q × (f.w ≡ fold_width (fold_number f.kind) (pat_width z))) (λ t z t₁' t₂' ts g₀. (z, g₀.pat, (fo.is t z (ts_cons t₁' (ts_cons t₂' ts)) g₀.all).1)) g.0 g.1 in
                 let m = m₂.is y.view v.0 z.0 0 z.1 in
                 let l = (m₂.seen y.view v.0).0.within in
                 let q₁ : off st < late = omega (arith, y.offs) in
@@ -298,7 +299,7 @@ module _ (b : List ℕ) (p : ℕ) (f : Fold) (e : get_or b p 0 ≡ 0xAC) (g : St
                 )
 
             pub fold-did : (st₆ d₅ : List ℕ) → x ≡ spot_of o (off st₅) → st₆ ≡ set st₅ 1 (next_of o (off st₅) f.w)
-                → ((z : Pattern) → PatternAt b z f.q → f.w ≡ fold_width f.kind (pat_width z) → d₅ ≡ overlay d₄ x (node_bytes 2 (fold_node f.kind (pat_at s₄ z k) a c n u.n)))
+                → ((z : Pattern) → PatternAt b z f.q → f.w ≡ fold_width (fold_number f.kind) (pat_width z) → d₅ ≡ overlay d₄ x (node_bytes 2 (fold_node (fold_number f.kind) (pat_at s₄ z k) a c n u.n)))
                 → Did b p s s₄ k o st st₆ d d₅ al u.tail
             fold-did st₆ d₅ zx f₆ pt =
                 did_of b p s s₄ k o st st₆ d d₅ al u.tail y g
@@ -353,7 +354,7 @@ module _ (b : List ℕ) (p : ℕ) (f : Fold) (e : get_or b p 0 ≡ 0xAC) (g : St
                     let put : Put (ms ++ E.more) (es ++ E.errs) st₁ st₅ d d₄ =
                     subst (λ (l : List Err). Put (ms ++ E.more) l st₁ st₅ d d₄) (in_row {A = Err} S.errs X.errs I.errs U.errs E.errs)
                     (subst (λ (l : List Rec). Put l (S.errs ++ (X.errs ++ (I.errs ++ (U.errs ++ E.errs)))) st₁ st₅ d d₄) (in_row {A = Rec} (slot S) X.more (slot I) (slot U) E.more) all) in
-                    let wf : f.w ≡ fold_width f.kind (pat_width z) = (fo.is t z (ts_cons v₁ (ts_cons v₂ ts)) q.all).1 in
+                    let wf : f.w ≡ fold_width (fold_number f.kind) (pat_width z) = (fo.is t z (ts_cons v₁ (ts_cons v₂ ts)) q.all).1 in
                     let wn : f.w ≡ length (rec_bytes 2 Q.self) =
                     wf ∙ ap (λ (j : ℕ). fold_width j (pat_width z)) (fo.kind ∙ ap (fold_kind (text_of b (p + 3))) (fo.is t z (ts_cons v₁ (ts_cons v₂ ts)) q.all).0)
                     ∙ own-fold p nm t z (ts_cons v₁ (ts_cons v₂ ts)) vw.top e₀ (num st) al ∙ ap (λ (O : Out). length (rec_bytes 2 O.self)) same in
@@ -367,5 +368,5 @@ module _ (b : List ℕ) (p : ℕ) (f : Fold) (e : get_or b p 0 ≡ 0xAC) (g : St
                           ∙ ap₂ (λ (j l : ℕ). overlay d₄ x (node_bytes 2 (fold_node (fold_kind nm.text f.a) X.made j l n u.n))) (a₁ ∙ t₁.num) (c₃ ∙ n₃)
                           ∙ ap₂ (λ (j l : ℕ). overlay d₄ x (node_bytes 2 (fold_node (fold_kind nm.text f.a) X.made (num st) K j l))) (n₄ ∙ n₄') p_u.1);
                       tail = p_u.2;
-                      wide = omega (arith, wn, wf, wide-fold f.kind (pat_width z), put.offs, m₁.paid.offs, m₂.wide z q.pat, m₃.paid.offs, m₄.paid.offs, h.at, h.pat, h.init, h.update);
+                      wide = omega (arith, wn, wf, wide-fold (fold_number f.kind) (pat_width z), put.offs, m₁.paid.offs, m₂.wide z q.pat, m₃.paid.offs, m₄.paid.offs, h.at, h.pat, h.init, h.update);
                     })

@@ -11,8 +11,8 @@ use Rattle.reads.proofs.width.int_of.Goals as goal
 pub returns-then-not-is_ascii_digit : goal.returns-then-not-is_ascii_digit
 returns-then-not-is_ascii_digit c =
     elim c.if-not-is_ascii_digit.ensures.cases [
-      inl l ↦ λ h. omega (arith, h, int-below _ _ _ c.loop-digit.invariant c.loop-digit-test.true l)
-    | inr l ↦ λ h. omega (arith, h, int-above _ _ _ c.loop-digit.invariant c.loop-digit-test.true l)
+      | inl l ↦ λ h. omega (arith, h, int-below _ _ _ c.loop-digit.invariant c.loop-digit-test.true l)
+      | inr l ↦ λ h. omega (arith, h, int-above _ _ _ c.loop-digit.invariant c.loop-digit-test.true l)
     ]
 
 pub returns-in_err-checked_mul : goal.returns-in_err-checked_mul
@@ -28,8 +28,8 @@ returns-in_err-v c =
 pub returns-then-is_empty : goal.returns-then-is_empty
 returns-then-is_empty c =
     elim c.then-is_empty.branch [
-      then-is_empty-via-then-is_empty w ↦ λ h. omega (arith, h, int-none c.args.x.now (eqb-true _ _ (sym w.if-is_empty.ensures)))
-    | then-is_empty-via-else-is_empty+then-v w ↦ λ h. omega (arith, h, int-high _ _ _ c.loop-digit.invariant (omega (arith, w.if-v.true)))
+      | then-is_empty-via-then-is_empty w ↦ λ h. omega (arith, h, int-none c.args.x.now (eqb-true _ _ (sym w.if-is_empty.ensures)))
+      | then-is_empty-via-else-is_empty+then-v w ↦ λ h. omega (arith, h, int-high _ _ _ c.loop-digit.invariant (omega (arith, w.if-v.true)))
     ]
 
 pub returns : goal.returns
