@@ -1,10 +1,10 @@
 -- What the functions on cells do, as laws on lists and numbers. Assumes nothing.
-use Prim.Native.Nat.{ℕ, suc, ◌+◌, ◌*◌, ◌/◌, ◌%◌, ◌^◌, ◌≤◌, ◌<◌}
+use Prim.Native.Nat.{ℕ, suc, ◌+◌, ◌*◌, ◌/◌, ◌%◌, ◌≤◌, ◌<◌}
 use native.Mathlib.Omega.{arith}
 use mathlib.Core.Path.{◌≡◌, refl}
 use mathlib.Core.List.{List}
 use mathlib.Core.Logic.{◌⊎◌, inl, inr}
-use lib.Bits.{bit_and, bit_xor, xor_lt, and_le_l, and_le_r}
+use lib.Bits.{bit_and, bit_xor, and_le_r}
 use lib.ListN.{length, get_or, set}
 use Rattle.reads.specs.Bytes.{head_of, word_of}
 use denote.Enum.Declared.{tag_of}
@@ -45,16 +45,6 @@ note-kind k (inr e) = rw e (omega arith)
 -- what a name's head is taken from
 abbrev pub mixed : ℕ → ℕ
 mixed w = bit_xor (w % 4294967296 * 2654435761) (w / 4294967296 * 2246822519) / 137438953472
-
-pub mixed-small : (w : ℕ) → w < 2 ^ 64 → mixed w < 134217728
-mixed-small w h =
-    let p : w % 4294967296 * 2654435761 < 2 ^ 64 = omega arith in
-    let q : w / 4294967296 * 2246822519 < 2 ^ 64 = omega arith in
-    let x : bit_xor (w % 4294967296 * 2654435761) (w / 4294967296 * 2246822519) < 2 ^ 64 = xor_lt 64 (w % 4294967296 * 2654435761) (w / 4294967296 * 2246822519) p q in
-    omega arith
-
-pub masked_small : (w l m : ℕ) → w < 2 ^ 64 → l < 65536 → bit_and (mixed w + l) m < 134283264
-masked_small w l m h g = omega (arith, mixed-small w h, and_le_l (mixed w + l) m)
 
 pub head-is : (m w l : ℕ) → (8 + bit_and (mixed w + l) m ≡ head_of m w l) × (8 ≤ 8 + bit_and (mixed w + l) m) × (8 + bit_and (mixed w + l) m ≤ 8 + m)
 unfolding head_of

@@ -492,10 +492,6 @@ module _ (b s : List ℕ) (x : Text) (c at a : ℕ) (ec : c ≡ colons_of x) (lt
   pub rest-length : length rest ≡ length x - (c + 2)
   rest-length = ap length rest-is ∙ length-drop (c + 2) x
 
-  pub rest-search : length x < 65536 → (w key : ℕ) → w ≡ word_of rest → key ≡ key_of 2 (length rest) a → Search rest w key
-  rest-search l w key ew ek =
-      record { class = 2; arity = a; few = omega arith; short = omega (arith, rest-length); word = ew; is = ek }
-
   pub mod-returns : (p : ℕ) → Imports b s (take c x) p → p ≡ 0 → (o : Hit.Found) → o ≡ lost_of 1 at c → MeansMod b s x c at a o
   mod-returns p i e o eo = subst (λ (u : Hit.Found). MeansMod b s x c at a u) (sym eo) (call-mod-lost b s x c at a p (omega arith) i e)
 

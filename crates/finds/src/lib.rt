@@ -184,11 +184,10 @@ pub fn call(tree: &[u8], rows: &[u64], x: &[u8], at: usize, a: usize) -> Meaning
     requires { Viewed tree.now rows.now × (length x.now < 65536) × (at < 2 ^ 32) × (a < 65536) }
     ensures { Means tree.now rows.now x.now at a (numbers result) }
 {
-    let c = colons(x);
-    if c < x.len() {
-        return call_mod(tree, rows, x, c, at, a);
+    match colons(x) {
+        Some(c) => call_mod(tree, rows, x, c, at, a),
+        None => local(tree, rows, x, at, a),
     }
-    local(tree, rows, x, at, a)
 }
 
 // The length of the record of a call with a arguments.

@@ -83,10 +83,10 @@ fn is_own(b: &[u8], p: usize, x: &[u8], a: usize) -> bool
     requires { (t : Term) × TermAt b.now t p }
     ensures { Owns b.now p x.now a result }
 {
-    if bytes::colons(x) < x.len() {
-        return false;
+    match bytes::colons(x) {
+        Some(_) => false,
+        None => defines(b, p, x, a),
     }
-    defines(b, p, x, a)
 }
 
 // The own record of the call at q, which the definitions of p are for: whichever of them it means, it is a call of a definition.

@@ -24,10 +24,6 @@ pub end_of-z-requires : goal.end_of-z-requires
 end_of-z-requires t c =
     let p = c.requires in some_fits _ _ p.1
 
-pub overflow_add-q : goal.overflow_add-q
-overflow_add-q t c =
-    let p = c.requires in omega (arith, some_fits _ _ p.1, p.0.small)
-
 pub loop-p-init : goal.loop-p-init
 loop-p-init t c =
     let a = c.args in
