@@ -1,35 +1,50 @@
 -- What the functions on cells do, as laws on lists and numbers. Assumes nothing.
-use Prim.Native.Nat.{ℕ, suc, ◌+◌, ◌*◌, ◌/◌, ◌%◌, ◌^◌, ◌≤◌, ◌<◌}
+use Prim.Native.Nat.{ℕ, suc, ◌+◌, ◌*◌, ◌/◌, ◌%◌, ◌≤◌, ◌<◌}
 use native.Mathlib.Omega.{arith}
-use mathlib.Core.Path.{◌≡◌, refl, sym}
+use mathlib.Core.Path.{◌≡◌, refl}
 use mathlib.Core.List.{List}
-use lib.Bits.{bit_and, bit_xor, xor_lt, and_le_l, and_le_r}
-use borrow.Author.Tests.{lt-ltb, le-ltb}
+use mathlib.Core.Logic.{◌⊎◌, inl, inr}
+use lib.Bits.{bit_and, bit_xor, and_le_r}
 use lib.ListN.{length, get_or, set}
 use Rattle.reads.specs.Bytes.{head_of, word_of}
+use denote.Enum.Declared.{tag_of}
 use Rattle.cells.specs.Cells.{key_of, class_of, pushed, bound_as}
+use Rattle.cells.specs.Kinds.{kind_number}
+use Rattle.cells.specs.declared.RowKind.{RowKind}
+use Rattle.cells.specs.declared.RowKind.TheVariants.{Var, Label, Arg, Parent, Sibling, Native, Kept, Piece}
+use Rattle.cells.specs.contracts.RowKind.{the_type}
 
--- ---- classes and heads
+-- ---- kinds and heads
 
-pub class_low : (k : ℕ) → k < 2 → (k ≡ class_of k) × (k < 3)
-class_low k h = (sym (simp (lt-ltb k 2 h)), omega arith)
+-- what `as` makes of a kind
+pub kind-cast : (k : RowKind) → tag_of the_type k ≡ kind_number k
+kind-cast Var = refl
+kind-cast Label = refl
+kind-cast Arg = refl
+kind-cast Parent = refl
+kind-cast Sibling = refl
+kind-cast Native = refl
+kind-cast Kept = refl
+kind-cast Piece = refl
 
-pub class-high : (k : ℕ) → 2 ≤ k → (2 ≡ class_of k) × (2 < 3)
-class-high k h = (sym (simp (le-ltb k 2 h)), omega arith)
+-- all kinds but two are of bindings
+pub binding-kind : (k : RowKind) → (k ≡ Kept → ⊥) → (k ≡ Piece → ⊥) → kind_number k < 6
+binding-kind Var h g = omega arith
+binding-kind Label h g = omega arith
+binding-kind Arg h g = omega arith
+binding-kind Parent h g = omega arith
+binding-kind Sibling h g = omega arith
+binding-kind Native h g = omega arith
+binding-kind Kept h g = absurd (h refl)
+binding-kind Piece h g = absurd (g refl)
+
+pub note-kind : (k : RowKind) → (k ≡ Kept) ⊎ (k ≡ Piece) → 6 ≤ kind_number k
+note-kind k (inl e) = rw e (omega arith)
+note-kind k (inr e) = rw e (omega arith)
 
 -- what a name's head is taken from
 abbrev pub mixed : ℕ → ℕ
 mixed w = bit_xor (w % 4294967296 * 2654435761) (w / 4294967296 * 2246822519) / 137438953472
-
-pub mixed-small : (w : ℕ) → w < 2 ^ 64 → mixed w < 134217728
-mixed-small w h =
-    let p : w % 4294967296 * 2654435761 < 2 ^ 64 = omega arith in
-    let q : w / 4294967296 * 2246822519 < 2 ^ 64 = omega arith in
-    let x : bit_xor (w % 4294967296 * 2654435761) (w / 4294967296 * 2246822519) < 2 ^ 64 = xor_lt 64 (w % 4294967296 * 2654435761) (w / 4294967296 * 2246822519) p q in
-    omega arith
-
-pub masked_small : (w l m : ℕ) → w < 2 ^ 64 → l < 65536 → bit_and (mixed w + l) m < 134283264
-masked_small w l m h g = omega (arith, mixed-small w h, and_le_l (mixed w + l) m)
 
 pub head-is : (m w l : ℕ) → (8 + bit_and (mixed w + l) m ≡ head_of m w l) × (8 ≤ 8 + bit_and (mixed w + l) m) × (8 + bit_and (mixed w + l) m ≤ 8 + m)
 unfolding head_of

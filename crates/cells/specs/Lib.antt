@@ -3,3 +3,5 @@ pub mod Notes
 pub mod Flat
 pub mod Packing
 pub mod Leaving
+pub mod Kinds
+pub mod Classes

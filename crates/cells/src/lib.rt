@@ -19,6 +19,8 @@ ghost use Rattle.std.specs.Prelude.{◌≡◌, ℕ, ◌+◌, ◌-◌, ◌*◌, �
 ghost use Rattle.tree.specs.Rose.{end_of, text_of};
 ghost use Rattle.reads.specs.Bytes.{head_of};
 ghost use Rattle.cells.specs.Cells.{key_of, key_at, number_at, kind_at, level_at, link_at, head_at, place_at, before_at, last_at, class_of, pushed, bound_as, noted, unlinked, closed, Room};
+ghost use Rattle.cells.specs.Kinds.{kind_number};
+ghost use Rattle.cells.specs.Classes.{class_number};
 
 use reads::bytes::{end_of, word};
 
@@ -39,43 +41,59 @@ pub const MODULES: usize = 6;
 
 pub const HEADS: usize = 8;
 
-// Kinds of rows. From KEPT on a row is a note: no binding, but numbers that are kept until the record that they belong to is put.
-pub const VAR: u64 = 0;
+// What each number in a row's cells is a multiple of there.
+const NUMBER: u64 = 1 << 34;
 
-pub const LABEL: u64 = 1;
+const LEVEL: u64 = 1 << 50;
 
-pub const ARG: u64 = 2;
+const HEAD: u64 = 1 << 14;
 
-pub const PARENT: u64 = 3;
+const PLACE: u64 = 1 << 30;
 
-pub const SIBLING: u64 = 4;
+const KIND: u64 = 1 << 45;
 
-pub const NATIVE: u64 = 5;
+const BEFORE: u64 = 1 << 48;
 
-pub const KEPT: u64 = 6;
+// Kinds of rows. From Kept on a row is a note: no binding, but numbers that are kept until the record that they belong to is put.
+#[derive(Clone, Copy)]
+pub enum RowKind {
+    Var,
+    Label,
+    Arg,
+    Parent,
+    Sibling,
+    Native,
+    Kept,
+    Piece,
+}
 
-pub const PIECE: u64 = 7;
+// "Only the same kind matches": a definition, a filter argument and a native are all filters, and no search is for a note.
+#[derive(Clone, Copy)]
+pub enum Class {
+    Variable,
+    Label,
+    Filter,
+    Note,
+}
 
-// Classes: "Only the same kind matches". A variable's is 0, a label's 1.
-pub const FILTER: u64 = 2;
-
-const NONE: u64 = 3;
-
-fn class_of(kind: u64) -> u64
-    ensures { (result ≡ class_of kind) × (result < 3) }
-{
-    if kind < 2 {
-        return kind;
+impl RowKind {
+    fn class(self) -> Class
+        ensures { class_number result ≡ class_of (kind_number self) }
+    {
+        match self {
+            RowKind::Var => Class::Variable,
+            RowKind::Label => Class::Label,
+            _ => Class::Filter,
+        }
     }
-    FILTER
 }
 
 // What a search compares besides the word: class, length of the name, arity.
-pub fn key(class: u64, len: usize, a: usize) -> u64
-    requires { (class < 4) × (len < 65536) × (a < 65536) }
-    ensures { (result ≡ key_of class len a) × (result < 17179869184) }
+pub fn key(class: Class, len: usize, a: usize) -> u64
+    requires { (len < 65536) × (a < 65536) }
+    ensures { (result ≡ key_of (class_number class) len a) × (result < 17179869184) }
 {
-    class + 4 * (len as u64) + 262144 * (a as u64)
+    class as u64 + 4 * (len as u64) + 262144 * (a as u64)
 }
 
 // The cell of the head for a name.
@@ -92,56 +110,65 @@ pub fn key_at(rows: &[u64], j: usize) -> u64
     requires { 4 * j + 4 ≤ length rows.now }
     ensures { result ≡ key_at rows.now j }
 {
-    rows[4 * j + 1] % 17179869184
+    rows[4 * j + 1] % NUMBER
 }
 
 pub fn number(rows: &[u64], j: usize) -> usize
     requires { 4 * j + 4 ≤ length rows.now }
     ensures { result ≡ number_at rows.now j }
 {
-    (rows[4 * j + 1] / 17179869184 % 65536) as usize
+    (rows[4 * j + 1] / NUMBER % 65536) as usize
 }
 
-pub fn kind(rows: &[u64], j: usize) -> u64
+pub fn kind(rows: &[u64], j: usize) -> RowKind
     requires { 4 * j + 4 ≤ length rows.now }
-    ensures { result ≡ kind_at rows.now j }
+    ensures { kind_number result ≡ kind_at rows.now j }
 {
-    rows[4 * j + 2] / 35184372088832 % 8
+    match rows[4 * j + 2] / KIND % 8 {
+        0 => RowKind::Var,
+        1 => RowKind::Label,
+        2 => RowKind::Arg,
+        3 => RowKind::Parent,
+        4 => RowKind::Sibling,
+        5 => RowKind::Native,
+        6 => RowKind::Kept,
+        _ => RowKind::Piece,
+    }
 }
 
 pub fn level(rows: &[u64], j: usize) -> u64
     requires { 4 * j + 4 ≤ length rows.now }
     ensures { result ≡ level_at rows.now j }
 {
-    rows[4 * j + 1] / 1125899906842624
+    rows[4 * j + 1] / LEVEL
 }
 
 pub fn link(rows: &[u64], j: usize) -> usize
     requires { 4 * j + 4 ≤ length rows.now }
     ensures { result ≡ link_at rows.now j }
 {
-    (rows[4 * j + 2] % 16384) as usize
+    (rows[4 * j + 2] % HEAD) as usize
 }
 
 fn head(rows: &[u64], j: usize) -> usize
     requires { 4 * j + 4 ≤ length rows.now }
     ensures { result ≡ head_at rows.now j }
 {
-    (rows[4 * j + 2] / 16384 % 65536) as usize
+    (rows[4 * j + 2] / HEAD % 65536) as usize
 }
 
 pub fn place(rows: &[u64], j: usize) -> usize
     requires { 4 * j + 4 ≤ length rows.now }
     ensures { result ≡ place_at rows.now j }
 {
-    (rows[4 * j + 2] / 1073741824 % 32768) as usize
+    (rows[4 * j + 2] / PLACE % 32768) as usize
 }
 
 fn before(rows: &[u64], j: usize) -> u64
     requires { 4 * j + 4 ≤ length rows.now }
     ensures { result ≡ before_at rows.now j }
 {
-    rows[4 * j + 2] / 281474976710656
+    rows[4 * j + 2] / BEFORE
 }
 
 pub fn last(rows: &[u64], j: usize) -> u64
@@ -167,57 +194,68 @@ pub fn skip(rows: &[u64], j: usize) -> usize
     (rows[IN_VIEW] - before(rows, j)) as usize
 }
 
-// Row k for the name whose field is at q, in view, where c bindings and l definitions were before it.
-pub fn push(
-    tree: &[u8],
-    rows: &mut [u64],
-    k: usize,
-    kind: u64,
-    q: usize,
-    a: usize,
-    n: usize,
-    c: u64,
-    l: u64,
-    set: u64,
-)
-    requires { Room rows.old k × (end_of tree.now q ≤ length tree.now) × (length tree.now ≤ 32768) × (kind < 6) × (a < 65536) × (n < 65536) × (c < 65536) × (l < 16384) }
-    ensures { rows.new ≡ pushed (text_of tree.now q) rows.old k kind q a n c l set }
+// What comes into view for the name whose field is at `place`, where `before` bindings and `level` definitions were.
+#[derive(Clone, Copy)]
+pub struct Binding {
+    pub kind: RowKind,
+    pub place: usize,
+    pub arity: usize,
+    pub number: usize,
+    pub before: u64,
+    pub level: u64,
+    // a definition's tail set
+    pub tail: u64,
+}
+
+// As row k.
+pub fn push(tree: &[u8], rows: &mut [u64], k: usize, d: Binding)
+    requires { Room rows.old k × (end_of tree.now d.place ≤ length tree.now) × (length tree.now ≤ 32768) × (kind_number d.kind < 6) × (d.arity < 65536) × (d.number < 65536) × (d.before < 65536) × (d.level < 16384) }
+    ensures { rows.new ≡ pushed (text_of tree.now d.place) rows.old k (kind_number d.kind) d.place d.arity d.number d.before d.level d.tail }
 {
-    let z = end_of(tree, q);
-    let x = &tree[q + 3..z];
+    let z = end_of(tree, d.place);
+    let x = &tree[d.place + 3..z];
     let w = word(x);
     let h = head_of(rows, w, x.len());
     let next = rows[h];
     rows[4 * k] = w;
-    rows[4 * k + 1] = key(class_of(kind), x.len(), a)
-        + (n as u64) * 17179869184
-        + l * 1125899906842624;
+    rows[4 * k + 1] = key(d.kind.class(), x.len(), d.arity)
+        + (d.number as u64) * NUMBER
+        + d.level * LEVEL;
     rows[4 * k + 2] = next
-        + (h as u64) * 16384
-        + (q as u64) * 1073741824
-        + kind * 35184372088832
-        + c * 281474976710656;
-    rows[4 * k + 3] = set;
+        + (h as u64) * HEAD
+        + (d.place as u64) * PLACE
+        + d.kind as u64 * KIND
+        + d.before * BEFORE;
+    rows[4 * k + 3] = d.tail;
     rows[h] = k as u64;
 }
 
 // A variable, label or filter argument, of number n if it is a note's: "each of these three kinds counts".
-pub fn bind(tree: &[u8], rows: &mut [u64], k: usize, kind: u64, q: usize, n: usize)
-    requires { Room rows.old k × (end_of tree.now q ≤ length tree.now) × (length tree.now ≤ 32768) × (kind < 3) × (n < 65536) × (get_or rows.old 1 0 < 65536) }
-    ensures { rows.new ≡ bound_as (text_of tree.now q) rows.old k kind q n }
+pub fn bind(tree: &[u8], rows: &mut [u64], k: usize, kind: RowKind, q: usize, n: usize)
+    requires { Room rows.old k × (end_of tree.now q ≤ length tree.now) × (length tree.now ≤ 32768) × (kind_number kind < 3) × (n < 65536) × (get_or rows.old 1 0 < 65536) }
+    ensures { rows.new ≡ bound_as (text_of tree.now q) rows.old k (kind_number kind) q n }
 {
     let c = rows[IN_VIEW];
-    push(tree, rows, k, kind, q, 0, n, c, 0, 0);
+    let row = Binding {
+        kind,
+        place: q,
+        arity: 0,
+        number: n,
+        before: c,
+        level: 0,
+        tail: 0,
+    };
+    push(tree, rows, k, row);
     rows[IN_VIEW] = c + 1;
 }
 
 // Row k keeps two numbers, out of view.
-pub fn note(rows: &mut [u64], k: usize, kind: u64, a: usize, b: usize)
-    requires { (4 * k + 4 ≤ length rows.old) × (a < 65536) × (kind < 8) }
-    ensures { rows.new ≡ noted rows.old k kind a b }
+pub fn note(rows: &mut [u64], k: usize, kind: RowKind, a: usize, b: usize)
+    requires { (4 * k + 4 ≤ length rows.old) × (a < 65536) }
+    ensures { rows.new ≡ noted rows.old k (kind_number kind) a b }
 {
-    rows[4 * k + 1] = NONE + (a as u64) * 17179869184;
-    rows[4 * k + 2] = kind * 35184372088832;
+    rows[4 * k + 1] = Class::Note as u64 + (a as u64) * NUMBER;
+    rows[4 * k + 2] = kind as u64 * KIND;
     rows[4 * k + 3] = b as u64;
 }
 
@@ -226,12 +264,11 @@ fn unlink(rows: &mut [u64], j: usize)
     requires { (4 * j + 4 ≤ length rows.old) × (kind_at rows.old j < 6 → head_at rows.old j < length rows.old) }
     ensures { rows.new ≡ unlinked rows.old j }
 {
-    if KEPT <= kind(rows, j) {
+    if let RowKind::Kept | RowKind::Piece = kind(rows, j) {
         return;
     }
     let h = head(rows, j);
-    let next = link(rows, j);
-    rows[h] = next as u64;
+    rows[h] = link(rows, j) as u64;
 }
 
 // The rows from k up to i leave the view, the last one first; c bindings are in view then.
@@ -239,9 +276,7 @@ pub fn close(rows: &mut [u64], k: usize, i: usize, c: u64)
     requires { (4 * i ≤ length rows.old) × (2 ≤ length rows.old) × (k ≤ i) × ((j : ℕ) → k ≤ j → j < i → kind_at rows.old j < 6 → (head_at rows.old j < length rows.old) × (head_at rows.old j < 4 * k)) }
     ensures { rows.new ≡ closed rows.old k i c }
 {
-    let mut j = i;
-    while k < j {
-        j -= 1;
+    for j in (k..i).rev() {
         unlink(rows, j);
     }
     rows[IN_VIEW] = c;

@@ -1,7 +1,7 @@
--- What every form's law uses: what stores leave of the state's three numbers, how far an own record moves the next offset, and a form's promise from its parts.
+-- What every form's law uses: what stores leave of the state, how far an own record moves the next offset, and a form's promise from its parts.
 -- Assumes nothing.
-use Rattle.std.specs.Prelude.{ℕ, ◌+◌, ◌*◌, ◌≤◌, ◌<◌, ◌≡◌, refl, Bool, true, false, cond, List, [], ◌∷◌, ◌++◌, eqb, length, get_or, set, take}
-use Rattle.std.proofs.Common.{arith, sym, ap, subst, ◌∙◌, length-set, get_or-set_same, get_or-set_other, eqb-true}
+use Rattle.std.specs.Prelude.{ℕ, ◌+◌, ◌*◌, ◌≤◌, ◌<◌, ◌≡◌, refl, Bool, true, false, cond, List, [], ◌∷◌, ◌++◌, eqb, length, take}
+use Rattle.std.proofs.Common.{arith, sym, ap, subst, eqb-true}
 use Rattle.tree.specs.Rose.{end_of}
 use Rattle.tree.specs.Tree.{Term}
 use Rattle.fields.specs.Number.{number}
@@ -14,37 +14,32 @@ use Rattle.rules.specs.Listing.{node_bytes, rec_bytes, table_bytes}
 use Rattle.rules.specs.Rules.{term}
 use Rattle.reads.specs.Bytes.{TermAt}
 use Rattle.reads.specs.Shapes.{term_fits}
-use Rattle.puts.specs.State.{num, off, ers, late, start_of, spot_of, next_of, Put, Own}
+use Rattle.puts.specs.declared.state.State.{State}
+use Rattle.puts.specs.State.{num, off, ers, late, start_of, spot_of, next_of, Put, Own, with_num, with_off}
 use Rattle.puts.specs.Rooms.{own-one}
 use Rattle.cells.specs.Cells.{View, Seen, env_of, number_at, last_at}
 use Rattle.compiler.specs.Post.{Ready, Stands, Paid, Did}
 
 -- ---- stores into the state
 
-module _ (st st₁ : List ℕ) (x : ℕ) where
-  pub off-num : st₁ ≡ set st 1 x → num st₁ ≡ num st
-  off-num e = ap (λ (l : List ℕ). get_or l 0 0) e ∙ get_or-set_other st 1 0 x 0 (λ h. omega (arith, h))
+module _ (st st₁ : State) (x : ℕ) where
+  pub off-num : st₁ ≡ with_off st x → num st₁ ≡ num st
+  off-num e = ap num e
 
-  pub off-ers : st₁ ≡ set st 1 x → ers st₁ ≡ ers st
-  off-ers e = ap (λ (l : List ℕ). get_or l 2 0) e ∙ get_or-set_other st 1 2 x 0 (λ h. omega (arith, h))
+  pub off-ers : st₁ ≡ with_off st x → ers st₁ ≡ ers st
+  off-ers e = ap ers e
 
-  pub off-len : st₁ ≡ set st 1 x → length st₁ ≡ length st
-  off-len e = ap length e ∙ length-set st 1 x
+  pub off-off : st₁ ≡ with_off st x → off st₁ ≡ x
+  off-off e = ap off e
 
-  pub off-off : length st ≡ 3 → st₁ ≡ set st 1 x → off st₁ ≡ x
-  off-off t e = ap (λ (l : List ℕ). get_or l 1 0) e ∙ get_or-set_same st 1 x 0 (omega (arith, t))
+  pub num-off : st₁ ≡ with_num st x → off st₁ ≡ off st
+  num-off e = ap off e
 
-  pub num-off : st₁ ≡ set st 0 x → off st₁ ≡ off st
-  num-off e = ap (λ (l : List ℕ). get_or l 1 0) e ∙ get_or-set_other st 0 1 x 0 (λ h. omega (arith, h))
+  pub num-ers : st₁ ≡ with_num st x → ers st₁ ≡ ers st
+  num-ers e = ap ers e
 
-  pub num-ers : st₁ ≡ set st 0 x → ers st₁ ≡ ers st
-  num-ers e = ap (λ (l : List ℕ). get_or l 2 0) e ∙ get_or-set_other st 0 2 x 0 (λ h. omega (arith, h))
-
-  pub num-len : st₁ ≡ set st 0 x → length st₁ ≡ length st
-  num-len e = ap length e ∙ length-set st 0 x
-
-  pub num-num : length st ≡ 3 → st₁ ≡ set st 0 x → num st₁ ≡ x
-  num-num t e = ap (λ (l : List ℕ). get_or l 0 0) e ∙ get_or-set_same st 0 x 0 (omega (arith, t))
+  pub num-num : st₁ ≡ with_num st x → num st₁ ≡ x
+  num-num e = ap num e
 
 -- ---- where the next offset is, an own record of w bytes being due at o
 
@@ -75,23 +70,23 @@ place-le o m w l h = go (eqb o m) (eqb o late) refl refl
     go false true e f = omega arith
     go false false e f = omega arith
 
-pub own-off : (q : Out) (o : ℕ) (st st' d d' : List ℕ) → off st < late → Own q o st st' d d' → off st' ≤ off st + length (rec_bytes 2 q.self) + length (table_bytes 2 q.more)
+pub own-off : (q : Out) (o : ℕ) (st st' : State) (d d' : List ℕ) → off st < late → Own q o st st' d d' → off st' ≤ off st + length (rec_bytes 2 q.self) + length (table_bytes 2 q.more)
 own-off q o st st' d d' h a = omega (arith, a.offs, place-le o (off st) (length (rec_bytes 2 q.self)) (length (table_bytes 2 q.more)) h)
 
 -- ---- a form's promise from its parts
 
 -- of one view and one term
-pub record Made (b : List ℕ) (p : ℕ) (q : Out) (o : ℕ) (st st' d d' : List ℕ) (r : ℕ) : Type 0 where
+pub record Made (b : List ℕ) (p : ℕ) (q : Out) (o : ℕ) (st st' : State) (d d' : List ℕ) (r : ℕ) : Type 0 where
   pub own : Own q o st st' d d'
   pub tail : r ≡ q.tail
   pub wide : length (rec_bytes 2 q.self) + length (table_bytes 2 q.more) + 64 * (p + 2) ≤ 64 * end_of b p
 
-pub made-node : (b : List ℕ) (p : ℕ) (n : Node) (ms : List Rec) (es : List Err) (a : Tail) (o w : ℕ) (st st' d d' : List ℕ)
+pub made-node : (b : List ℕ) (p : ℕ) (n : Node) (ms : List Rec) (es : List Err) (a : Tail) (o w : ℕ) (st st' : State) (d d' : List ℕ)
     → Own (node p n ms es a) o st st' d d' → w ≡ length (node_bytes 2 n) → w + length (table_bytes 2 ms) + 64 * (p + 2) ≤ 64 * end_of b p
     → Made b p (node p n ms es a) o st st' d d' a
 made-node b p n ms es a o w st st' d d' i e h = record { own = i; tail = refl; wide = omega (arith, e, h) }
 
-pub did_of : (b : List ℕ) (p : ℕ) (s s' : List ℕ) (k o : ℕ) (st st' d d' : List ℕ) (al r : ℕ)
+pub did_of : (b : List ℕ) (p : ℕ) (s s' : List ℕ) (k o : ℕ) (st st' : State) (d d' : List ℕ) (al r : ℕ)
     → Ready b s k (p + 1) (end_of b p) st → Stands b p
     → ((vw : View) → Seen vw b s k → (t : Term) → TermAt b t p → Made b p (term vw.top t (env_of vw b s k) (num st) al) o st st' d d' r)
     → take (4 * k) s' ≡ take (4 * k) s → length s' ≡ length s
@@ -107,7 +102,6 @@ did_of b p s s' k o st st' d d' al r y g f e l n x =
           record {
             kept = e;
             same = l;
-            three = m.own.same;
             nums = n;
             offs = omega (arith, m.wide, own-off (term y.view.top g.0 (env_of y.view b s k) (num st) al) o st st' d d' (omega (arith, y.offs, y.small, term_fits b g.0 p g.1)) m.own);
             errs = x;
@@ -116,12 +110,12 @@ did_of b p s s' k o st st' d d' al r y g f e l n x =
 
 -- What every form with members does: w bytes are reserved, what the members are and contain is put, and the own record goes to its place. `f` says, of every
 -- view and term, that what was put is what the rules say
-pub form-did : (b : List ℕ) (p : ℕ) (s s' : List ℕ) (k o w x : ℕ) (st st₁ st₂ st₃ d d₁ d₂ : List ℕ) (al r : ℕ) (n : Node)
+pub form-did : (b : List ℕ) (p : ℕ) (s s' : List ℕ) (k o w x : ℕ) (st st₁ st₂ st₃ : State) (d d₁ d₂ : List ℕ) (al r : ℕ) (n : Node)
     → Ready b s k (p + 1) (end_of b p) st → Stands b p
-    → st₁ ≡ set st 1 (start_of o (off st) w)
+    → st₁ ≡ with_off st (start_of o (off st) w)
     → ((vw : View) → Seen vw b s k → (t : Term) → TermAt b t p → (ms : List Rec) × (es : List Err) × (term vw.top t (env_of vw b s k) (num st) al ≡ node p n ms es r) × Put ms es st₁ st₂ d d₁)
     → w ≡ length (node_bytes 2 n)
-    → x ≡ spot_of o (off st₂) → st₃ ≡ set st₂ 1 (next_of o (off st₂) w) → d₂ ≡ overlay d₁ x (node_bytes 2 n)
+    → x ≡ spot_of o (off st₂) → st₃ ≡ with_off st₂ (next_of o (off st₂) w) → d₂ ≡ overlay d₁ x (node_bytes 2 n)
     → take (4 * k) s' ≡ take (4 * k) s → length s' ≡ length s
     → num st₂ + 2 * (p + 2) ≤ num st₁ + 2 * end_of b p
     → off st₂ + w + 64 * (p + 2) ≤ off st₁ + 64 * end_of b p
@@ -137,33 +131,31 @@ form-did b p s s' k o w x st st₁ st₂ st₃ d d₁ d₂ al r n y g e₁ f w�
         let m = f vw v t a in
         let c : Put m.0 m.1 st₁ st₂ d d₁ = m.3 in
         subst (λ (q : Out). Made b p q o st st₃ d d₂ r) (sym m.2)
-        (made-node b p n m.0 m.1 r o w st st₃ d d₂ (own-one p n r m.0 m.1 o w x st st₁ st₂ st₃ d d₁ d₂ y.three w₁ e₁ c i e₃ j) w₁ (omega (arith, h₂, c.offs)))
+        (made-node b p n m.0 m.1 r o w st st₃ d d₂ (own-one p n r m.0 m.1 o w x st st₁ st₂ st₃ d d₁ d₂ w₁ e₁ c i e₃ j) w₁ (omega (arith, h₂, c.offs)))
 
 -- what is ready at p for a form is ready from q up to z within it, where i rows more are in view, room being reserved
-pub ready_at : (b s s₁ : List ℕ) (k i p q z o w : ℕ) (st st₁ : List ℕ) → Ready b s k (p + 1) (end_of b p) st → st₁ ≡ set st 1 (start_of o (off st) w) → w ≤ 1048576
+pub ready_at : (b s s₁ : List ℕ) (k i p q z o w : ℕ) (st st₁ : State) → Ready b s k (p + 1) (end_of b p) st → st₁ ≡ with_off st (start_of o (off st) w) → w ≤ 1048576
     → p + 2 ≤ q → p + 1 + 3 * i ≤ q → q ≤ z → z ≤ end_of b p → length s₁ ≡ length s → ((vw : View) → Seen vw b s k → Seen vw b s₁ (k + i))
     → Ready b s₁ (k + i) q z st₁
 ready_at b s s₁ k i p q z o w st st₁ y e h g₁ g₂ g₃ g₄ l f =
     record {
       small = y.small;
-      three = off-len st st₁ (start_of o (off st) w) e ∙ y.three;
       view = y.view;
       seen = f y.view y.seen;
       order = g₃;
       within = omega (arith, g₄, y.within);
       spare = omega (arith, y.spare, l, g₂, g₃, g₄, y.within);
       nums = omega (arith, y.nums, off-num st st₁ (start_of o (off st) w) e, g₁, g₃, g₄);
-      offs = omega (arith, y.offs, off-off st st₁ (start_of o (off st) w) y.three e, (start-le o (off st) w).1, g₁, g₃, g₄, h);
+      offs = omega (arith, y.offs, off-off st st₁ (start_of o (off st) w) e, (start-le o (off st) w).1, g₁, g₃, g₄, h);
       errs = omega (arith, y.errs, off-ers st st₁ (start_of o (off st) w) e, g₁, g₃, g₄);
     }
 
 -- and what is ready from q up to z is ready behind what was compiled from q' up to x
-pub ready-then : (b s s₁ : List ℕ) (k i q q' x z z' : ℕ) (st st₁ : List ℕ) → Ready b s k q z st → Paid q' x k s s₁ st st₁ → q ≤ q' → q' ≤ x → q + 3 * i ≤ x → x ≤ z' → z' ≤ z
+pub ready-then : (b s s₁ : List ℕ) (k i q q' x z z' : ℕ) (st st₁ : State) → Ready b s k q z st → Paid q' x k s s₁ st st₁ → q ≤ q' → q' ≤ x → q + 3 * i ≤ x → x ≤ z' → z' ≤ z
     → ((vw : View) → Seen vw b s k → Seen vw b s₁ (k + i)) → Ready b s₁ (k + i) x z' st₁
 ready-then b s s₁ k i q q' x z z' st st₁ y a h g₀ g₁ g₂ g₃ f =
     record {
       small = y.small;
-      three = a.three ∙ y.three;
       view = y.view;
       seen = f y.view y.seen;
       order = g₂;

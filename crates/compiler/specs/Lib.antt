@@ -7,3 +7,4 @@ pub mod FormsA
 pub mod FormsB
 pub mod FormsC
 pub mod FormsD
+pub mod Same

@@ -1,12 +1,13 @@
 -- Steps that the forms have in common: the state after a store, what a callee keeps in view, how what was paid adds up, and from what a form has put to what
 -- its contract promises. Assumes nothing.
-use Rattle.std.specs.Prelude.{ℕ, suc, ◌+◌, ◌*◌, ◌≤◌, ◌<◌, ◌≡◌, List, [], ◌∷◌, length, get_or, set, take}
+use Rattle.std.specs.Prelude.{ℕ, suc, ◌+◌, ◌*◌, ◌≤◌, ◌<◌, ◌≡◌, List, length, take}
 use Rattle.std.proofs.Common.{arith, sym, ap, subst, ◌∙◌}
 use Rattle.tree.specs.Tree.{Term}
 use Rattle.rules.specs.Rows.{Env}
 use Rattle.rules.specs.Outs.{slot}
 use Rattle.rules.specs.Rules.{term}
-use Rattle.puts.specs.State.{num, off, ers, start_of, Put}
+use Rattle.puts.specs.declared.state.State.{State}
+use Rattle.puts.specs.State.{num, off, ers, start_of, Put, with_num, with_off, with_ers}
 use Rattle.puts.specs.Rooms.{start-high}
 use Rattle.reads.specs.Bytes.{TermAt}
 use Rattle.cells.specs.Cells.{View, Seen, env_of, number_at, last_at, kind_at, noted}
@@ -17,75 +18,60 @@ use Rattle.compiler.specs.Post.{Ready, Paid, Laid}
 
 -- ---- the state after a store
 
-pub record Stored (st st₁ : List ℕ) (n o e : ℕ) : Type 0 where
+pub record Stored (st₁ : State) (n o e : ℕ) : Type 0 where
   pub num : num st₁ ≡ n
   pub off : off st₁ ≡ o
   pub ers : ers st₁ ≡ e
-  pub same : length st₁ ≡ length st
 
-pub set-num : (st st₁ : List ℕ) (x : ℕ) → length st ≡ 3 → st₁ ≡ set st 0 x → Stored st st₁ x (off st) (ers st)
-set-num [] st₁ x l e = absurd (omega (arith, l))
-set-num (a ∷ []) st₁ x l e = absurd (omega (arith, l))
-set-num (a ∷ b ∷ []) st₁ x l e = absurd (omega (arith, l))
-set-num (a ∷ b ∷ c ∷ ds) st₁ x l e = record { num = ap (λ (s : List ℕ). get_or s 0 0) e; off = ap (λ (s : List ℕ). get_or s 1 0) e; ers = ap (λ (s : List ℕ). get_or s 2 0) e; same = ap length e }
+pub set-num : (st st₁ : State) (x : ℕ) → st₁ ≡ with_num st x → Stored st₁ x (off st) (ers st)
+set-num st st₁ x e = record { num = ap num e; off = ap off e; ers = ap ers e }
 
-pub set-off : (st st₁ : List ℕ) (x : ℕ) → length st ≡ 3 → st₁ ≡ set st 1 x → Stored st st₁ (num st) x (ers st)
-set-off [] st₁ x l e = absurd (omega (arith, l))
-set-off (a ∷ []) st₁ x l e = absurd (omega (arith, l))
-set-off (a ∷ b ∷ []) st₁ x l e = absurd (omega (arith, l))
-set-off (a ∷ b ∷ c ∷ ds) st₁ x l e = record { num = ap (λ (s : List ℕ). get_or s 0 0) e; off = ap (λ (s : List ℕ). get_or s 1 0) e; ers = ap (λ (s : List ℕ). get_or s 2 0) e; same = ap length e }
+pub set-off : (st st₁ : State) (x : ℕ) → st₁ ≡ with_off st x → Stored st₁ (num st) x (ers st)
+set-off st st₁ x e = record { num = ap num e; off = ap off e; ers = ap ers e }
 
-pub set-ers : (st st₁ : List ℕ) (x : ℕ) → length st ≡ 3 → st₁ ≡ set st 2 x → Stored st st₁ (num st) (off st) x
-set-ers [] st₁ x l e = absurd (omega (arith, l))
-set-ers (a ∷ []) st₁ x l e = absurd (omega (arith, l))
-set-ers (a ∷ b ∷ []) st₁ x l e = absurd (omega (arith, l))
-set-ers (a ∷ b ∷ c ∷ ds) st₁ x l e = record { num = ap (λ (s : List ℕ). get_or s 0 0) e; off = ap (λ (s : List ℕ). get_or s 1 0) e; ers = ap (λ (s : List ℕ). get_or s 2 0) e; same = ap length e }
+pub set-ers : (st st₁ : State) (x : ℕ) → st₁ ≡ with_ers st x → Stored st₁ (num st) (off st) x
+set-ers st st₁ x e = record { num = ap num e; off = ap off e; ers = ap ers e }
 
-pub set_both : (st st₁ : List ℕ) (x y : ℕ) → length st ≡ 3 → st₁ ≡ set (set st 0 x) 1 y → Stored st st₁ x y (ers st)
-set_both [] st₁ x y l e = absurd (omega (arith, l))
-set_both (a ∷ []) st₁ x y l e = absurd (omega (arith, l))
-set_both (a ∷ b ∷ []) st₁ x y l e = absurd (omega (arith, l))
-set_both (a ∷ b ∷ c ∷ ds) st₁ x y l e = record { num = ap (λ (s : List ℕ). get_or s 0 0) e; off = ap (λ (s : List ℕ). get_or s 1 0) e; ers = ap (λ (s : List ℕ). get_or s 2 0) e; same = ap length e }
+pub set_both : (st st₁ : State) (x y : ℕ) → st₁ ≡ with_off (with_num st x) y → Stored st₁ x y (ers st)
+set_both st st₁ x y e = record { num = ap num e; off = ap off e; ers = ap ers e }
 
 -- ---- what is kept
 
 abbrev pub Keeps : List ℕ → List ℕ → List ℕ → ℕ → Type 0
 Keeps b s s' k = (vw : View) → Seen vw b s k → Seen vw b s' k × (env_of vw b s' k ≡ env_of vw b s k)
 
-pub keeps : (b s s' : List ℕ) (k p z : ℕ) (st st' : List ℕ) → Paid p z k s s' st st' → Keeps b s s' k
+pub keeps : (b s s' : List ℕ) (k p z : ℕ) (st st' : State) → Paid p z k s s' st st' → Keeps b s s' k
 keeps b s s' k p z st st' h vw g = seen-kept vw b s s' k h.kept h.same g
 
 -- what a callee that keeps more rows keeps
 pub kept_less : (k k' : ℕ) (s s' : List ℕ) → k ≤ k' → take (4 * k') s' ≡ take (4 * k') s → take (4 * k) s' ≡ take (4 * k) s
 kept_less k k' s s' h e = below_less (4 * k) (4 * k') s s' (omega (arith, h)) e
 
-pub paid-less : (p z k k' : ℕ) (s s' st st' : List ℕ) → k ≤ k' → Paid p z k' s s' st st' → Paid p z k s s' st st'
-paid-less p z k k' s s' st st' h a = record { kept = kept_less k k' s s' h a.kept; same = a.same; three = a.three; nums = a.nums; offs = a.offs; errs = a.errs }
+pub paid-less : (p z k k' : ℕ) (s s' : List ℕ) (st st' : State) → k ≤ k' → Paid p z k' s s' st st' → Paid p z k s s' st st'
+paid-less p z k k' s s' st st' h a = record { kept = kept_less k k' s s' h a.kept; same = a.same; nums = a.nums; offs = a.offs; errs = a.errs }
 
 -- one after the other; the second starts not before the first ends
-pub paid-then : (p y x z k : ℕ) (s s₁ s₂ st st₁ st₂ : List ℕ) → y ≤ x → Paid p y k s s₁ st st₁ → Paid x z k s₁ s₂ st₁ st₂ → Paid p z k s s₂ st st₂
+pub paid-then : (p y x z k : ℕ) (s s₁ s₂ : List ℕ) (st st₁ st₂ : State) → y ≤ x → Paid p y k s s₁ st st₁ → Paid x z k s₁ s₂ st₁ st₂ → Paid p z k s s₂ st st₂
 paid-then p y x z k s s₁ s₂ st st₁ st₂ h a c =
     record {
       kept = c.kept ∙ a.kept;
       same = c.same ∙ a.same;
-      three = c.three ∙ a.three;
       nums = omega (arith, h, a.nums, c.nums);
       offs = omega (arith, h, a.offs, c.offs);
       errs = omega (arith, h, a.errs, c.errs);
     }
 
 -- less was asked for
-pub paid-wider : (p x z y k : ℕ) (s s' st st' : List ℕ) → p ≤ x → z ≤ y → Paid x z k s s' st st' → Paid p y k s s' st st'
-paid-wider p x z y k s s' st st' h g a = record { kept = a.kept; same = a.same; three = a.three; nums = omega (arith, h, g, a.nums); offs = omega (arith, h, g, a.offs); errs = omega (arith, h, g, a.errs) }
+pub paid-wider : (p x z y k : ℕ) (s s' : List ℕ) (st st' : State) → p ≤ x → z ≤ y → Paid x z k s s' st st' → Paid p y k s s' st st'
+paid-wider p x z y k s s' st st' h g a = record { kept = a.kept; same = a.same; nums = omega (arith, h, g, a.nums); offs = omega (arith, h, g, a.offs); errs = omega (arith, h, g, a.errs) }
 
 -- ---- a member that is ready: what was used up to here was paid for
 
 -- part of a region
-pub ready-part : (b s : List ℕ) (k p p' z z' : ℕ) (st : List ℕ) → Ready b s k p z st → p ≤ p' → p' ≤ z' → z' ≤ z → Ready b s k p' z' st
+pub ready-part : (b s : List ℕ) (k p p' z z' : ℕ) (st : State) → Ready b s k p z st → p ≤ p' → p' ≤ z' → z' ≤ z → Ready b s k p' z' st
 ready-part b s k p p' z z' st r h g l =
     record {
       small = r.small;
-      three = r.three;
       view = r.view;
       seen = r.seen;
       order = g;
@@ -97,12 +83,11 @@ ready-part b s k p p' z z' st r h g l =
     }
 
 -- behind what was compiled from x up to y
-pub ready-after : (b s s' : List ℕ) (k p x y z : ℕ) (st st' : List ℕ) → Ready b s k p z st → p ≤ x → x ≤ y → y ≤ z → Paid x y k s s' st st' → Ready b s' k y z st'
+pub ready-after : (b s s' : List ℕ) (k p x y z : ℕ) (st st' : State) → Ready b s k p z st → p ≤ x → x ≤ y → y ≤ z → Paid x y k s s' st st' → Ready b s' k y z st'
 ready-after b s s' k p x y z st st' r h g l a =
     let v = keeps b s s' k x y st st' a r.view r.seen in
     record {
       small = r.small;
-      three = a.three ∙ r.three;
       view = r.view;
       seen = v.0;
       order = l;
@@ -114,13 +99,12 @@ ready-after b s s' k p x y z st st' r h g l a =
     }
 
 -- the own record is reserved, and the first member stands from p' up to z'
-pub ready-start : (b s : List ℕ) (k p p' z z' o w : ℕ) (st st₁ : List ℕ) → Ready b s k p z st → p + 2 ≤ p' → p' ≤ z' → z' ≤ z → w ≤ 2097152 → st₁ ≡ set st 1 (start_of o (off st) w)
+pub ready-start : (b s : List ℕ) (k p p' z z' o w : ℕ) (st st₁ : State) → Ready b s k p z st → p + 2 ≤ p' → p' ≤ z' → z' ≤ z → w ≤ 2097152 → st₁ ≡ with_off st (start_of o (off st) w)
     → Ready b s k p' z' st₁
 ready-start b s k p p' z z' o w st st₁ r h g l m e =
-    let a = set-off st st₁ (start_of o (off st) w) r.three e in
+    let a = set-off st st₁ (start_of o (off st) w) e in
     record {
       small = r.small;
-      three = a.same ∙ r.three;
       view = r.view;
       seen = r.seen;
       order = g;
@@ -133,7 +117,7 @@ ready-start b s k p p' z z' o w st st₁ r h g l m e =
 
 -- ---- a member's records, in the rule's own words
 
-pub laid_as : (b : List ℕ) (p : ℕ) (s s' : List ℕ) (k : ℕ) (st st' d d' : List ℕ) (al r : ℕ) (vw : View) (e : Env) (n : ℕ) (t : Term)
+pub laid_as : (b : List ℕ) (p : ℕ) (s s' : List ℕ) (k : ℕ) (st st' : State) (d d' : List ℕ) (al r : ℕ) (vw : View) (e : Env) (n : ℕ) (t : Term)
     → Laid b p s s' k st st' d d' al r → Seen vw b s k → env_of vw b s k ≡ e → num st ≡ n → TermAt b t p
     → let q = term vw.top t e (suc n) al in Put (slot q) q.errs st st' d d' × (r ≡ q.tail)
 laid_as b p s s' k st st' d d' al r vw e n t a g i j h =

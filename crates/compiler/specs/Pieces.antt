@@ -13,6 +13,7 @@ use Rattle.rules.specs.Outs as outs
 use Rattle.rules.specs.Listing.{node_bytes}
 use Rattle.rules.specs.Rules.{term, fold_error, string, entry, format_out}
 use Rattle.compiler.specs.declared.Updated.{Updated}
+use Rattle.puts.specs.declared.state.State.{State}
 use Rattle.puts.specs.State.{num, off, ers, Put}
 use Rattle.reads.specs.Bytes.{past, name_at, TermAt, PatternAt}
 use Rattle.reads.specs.Widths.{fold_kind}
@@ -22,7 +23,7 @@ use Rattle.cells.specs.Notes.{lasts_of, pat_at, places_in, string_node}
 use Rattle.compiler.specs.Post.{Paid, NoteFits}
 
 -- ---- the right of a Pipe, whose operator field is at q, under the variables of its pattern
-pub record Under (b : List ℕ) (q : ℕ) (s s' : List ℕ) (k : ℕ) (st st' d d' : List ℕ) (al r : ℕ) : Type 0 where
+pub record Under (b : List ℕ) (q : ℕ) (s s' : List ℕ) (k : ℕ) (st st' : State) (d d' : List ℕ) (al r : ℕ) : Type 0 where
   pub is : (vw : View) → Seen vw b s k → (x : Pattern) → PatternAt b x (q + 3) → (u : Term) → TermAt b u (end_of b q)
       → let a = term vw.top u (push_vars (vars x) (env_of vw b s k)) (suc (num st)) al in Put (slot a) a.errs st st' d d' × (r ≡ a.tail)
   pub paid : Paid (end_of b q + 1) (end_of b (end_of b q)) k s s' st st'
@@ -61,7 +62,7 @@ pub record Folding (b : List ℕ) (p x u a kind : ℕ) : Type 0 where
   pub rest : (ts : Terms) × Row b (f_terms ts rnil) (end_of b u) (end_of b p) × (2 + arity ts ≡ a)
 
 -- an error may be due that the fold's own bytes pay for
-pub record Projected (b : List ℕ) (p u a : ℕ) (s s' : List ℕ) (k : ℕ) (st st' d d' : List ℕ) (al r : ℕ) : Type 0 where
+pub record Projected (b : List ℕ) (p u a : ℕ) (s s' : List ℕ) (k : ℕ) (st st' : State) (d d' : List ℕ) (al r : ℕ) : Type 0 where
   pub is : (vw : View) → Seen vw b s k → (ts : Terms) → Row b (f_terms ts rnil) (end_of b u) (end_of b p) → 2 + arity ts ≡ a
       → let m = ends_of vw.top (name_at b (p + 3)) a ts (env_of vw b s k) (num st) al in Put m.more m.errs st st' d d' × (r ≡ m.tail)
   pub paid : Paid (end_of b u) (end_of b p + 1) k s s' st st'
@@ -76,7 +77,7 @@ pub record Noted (b s : List ℕ) (k i : ℕ) : Type 0 where
   pub fits : (j : ℕ) → k ≤ j → j < i → NoteFits b s j
 
 -- update and what stands behind it, under the variables, whose notes are rows k up to i
-pub record Updating (b : List ℕ) (p u a : ℕ) (s s' : List ℕ) (k i : ℕ) (st st' d d' : List ℕ) (al : ℕ) (r : Updated) : Type 0 where
+pub record Updating (b : List ℕ) (p u a : ℕ) (s s' : List ℕ) (k i : ℕ) (st st' : State) (d d' : List ℕ) (al : ℕ) (r : Updated) : Type 0 where
   pub is : (vw : View) → Seen vw b s k → (x : Pattern) (q : ℕ) → 0 < q → PatternAt b x q → lasts_of s k (i - k) ≡ places_in x
       → (t : Term) → TermAt b t u → (ts : Terms) → Row b (f_terms ts rnil) (end_of b u) (end_of b p) → 2 + arity ts ≡ a
       → let e = push_vars (vars x) (env_of vw b s k) in
@@ -92,7 +93,7 @@ abbrev pub plain_out : ℕ → List ℕ → Out
 plain_out p x = outs.node p (n_str x) (record { place = p; node = n_to_string } ∷ []) [] empty
 
 -- the format, whose field is at p if it stands before q
-pub record FormatIs (b : List ℕ) (p q : ℕ) (s st st' d d' : List ℕ) : Type 0 where
+pub record FormatIs (b : List ℕ) (p q : ℕ) (s : List ℕ) (st st' : State) (d d' : List ℕ) : Type 0 where
   pub is : (vw : View) (k : ℕ) → Seen vw b s k → (f : Format) (xs : StrParts) (z at : ℕ) → q ≡ past b p z 0xBA → Row b (f_format f (f_str_parts xs rnil)) p z
       → let a = format_out vw.top f at (env_of vw b s k) in Put (slot a) a.errs st st' d d'
   pub nums : num st' ≡ num st + 1
@@ -100,7 +101,7 @@ pub record FormatIs (b : List ℕ) (p q : ℕ) (s st st' d d' : List ℕ) : Type
   pub errs : ers st' ≤ ers st + 11
 
 -- what the part at q contains
-pub record StringIs (b : List ℕ) (q : ℕ) (s s' : List ℕ) (k : ℕ) (st st' d d' : List ℕ) : Type 0 where
+pub record StringIs (b : List ℕ) (q : ℕ) (s s' : List ℕ) (k : ℕ) (st st' : State) (d d' : List ℕ) : Type 0 where
   pub is : (vw : View) → Seen vw b s k → (x : StrPart) (p f : ℕ) → Row b (rcons (f_str_part x) rnil) q (end_of b q)
       → let a = string vw.top x p f (env_of vw b s k) (num st) in Put a.more a.errs st st' d d'
   pub wide : (x : StrPart) (f n : ℕ) → Row b (rcons (f_str_part x) rnil) q (end_of b q) → off st' + (8 + length (node_bytes 2 (string_node x f n))) + 64 * q ≤ off st + 64 * end_of b q
@@ -109,7 +110,7 @@ pub record StringIs (b : List ℕ) (q : ℕ) (s s' : List ℕ) (k : ℕ) (st st'
 -- ---- objects
 
 -- the entry of key t and value v at q
-pub record EntryIs (b : List ℕ) (q : ℕ) (s s' : List ℕ) (k : ℕ) (st st' d d' : List ℕ) : Type 0 where
+pub record EntryIs (b : List ℕ) (q : ℕ) (s s' : List ℕ) (k : ℕ) (st st' : State) (d d' : List ℕ) : Type 0 where
   pub is : (vw : View) → Seen vw b s k → (t : Term) (v : OptTerm) (p : ℕ) → EntryAt b q t v
       → let e = env_of vw b s k in
       let a = entry vw.top v p e (num st) (var_name t) (term vw.top t e (suc (num st)) empty) (term vw.top t e (suc (suc (num st))) empty) in
@@ -119,7 +120,7 @@ pub record EntryIs (b : List ℕ) (q : ℕ) (s s' : List ℕ) (k : ℕ) (st st' 
   pub paid : Paid (q + 1) (end_of b q) k s s' st st'
 
 -- a key at p that stands alone
-pub record LoneIs (b : List ℕ) (p : ℕ) (s s' : List ℕ) (k : ℕ) (st st' d d' : List ℕ) : Type 0 where
+pub record LoneIs (b : List ℕ) (p : ℕ) (s s' : List ℕ) (k : ℕ) (st st' : State) (d d' : List ℕ) : Type 0 where
   pub is : (vw : View) → Seen vw b s k → (t : Term) (at : ℕ) → TermAt b t p
       → let e = env_of vw b s k in
       let a = lone_out at (num st) (term vw.top t e (suc (num st)) empty) (term vw.top t e (suc (suc (num st))) empty) (var_name t) in

@@ -1,5 +1,5 @@
 -- What each return of the functions that say what a call means shows. Assumes nothing.
-use Prim.Native.Nat.{ℕ, zero, suc, ◌+◌, ◌-◌, ◌*◌, ◌≤◌, ◌<◌}
+use Prim.Native.Nat.{ℕ, zero, suc, ◌+◌, ◌-◌, ◌*◌, ◌/◌, ◌≤◌, ◌<◌}
 use native.Mathlib.Omega.{arith}
 use mathlib.Core.Path.{◌≡◌, refl, sym, ap, subst, ◌∙◌}
 use mathlib.Core.Logic.{◌⊎◌, inl, inr}
@@ -20,7 +20,8 @@ use Rattle.rules.specs.Lists.{Member}
 use Rattle.rules.specs.Filters.{Top, home_of, Found, nothing, argument, local, of_module, of_native, find, native_of, definition, included, import_named, found_within, found_else, filter_named, import_meant, part_meant, meant, error_at}
 use Rattle.reads.specs.Bytes.{pair_at, word_of, head_of, colons_of}
 use Rattle.cells.specs.Cells.{View, Seen, outer, env_of, key_of, kind_at, low_of, high_of, Kept, rows_of}
-use Rattle.finds.specs.declared.Found as Hit
+use Rattle.finds.specs.Hits as Hit
+use Rattle.finds.specs.Hits.{row_of, lost_of}
 use Rattle.finds.specs.Means.{matches, first_of, FoundIs, Means}
 use Rattle.finds.specs.Keys.{matches-fits, fits_row}
 use Rattle.finds.specs.Firsts.{first-same}
@@ -28,7 +29,7 @@ use Rattle.finds.specs.Variables.{seen-order}
 use Rattle.finds.specs.Calls.{down_to, ModIs, module-find, LocalIs, NativeIs, Sees, sees}
 use Rattle.finds.specs.Modules.{unset, NumberAt, numbers-end, numbers-at, includes-below, uses-includes, uses-imports, included-more, included-found, ImportIs, import-below, parting-plain, parting-parted}
 use Rattle.finds.specs.Asks as asks
-use Rattle.finds.specs.Asks.{Viewed, Search, Seeks, Defined, Includes, Imports, MeansMod, MeansPlain, row_of, lost_of, outside_of}
+use Rattle.finds.specs.Asks.{Viewed, Search, Seeks, Defined, Includes, Imports, MeansMod, MeansPlain, outside_of}
 use Rattle.finds.proofs.Seeks.{view_first}
 
 -- ---- the definitions of a module
@@ -78,6 +79,9 @@ Known b s i = (vw : View) × (k : ℕ) × Seen vw b s k × (i < home_of vw.top)
 module _ (b s : List ℕ) (i : ℕ) (v : Known b s i) where
   pub known-cell : get_or s 6 0 + i < length s
   known-cell = kept-cell v.0 b s v.1 v.2 i v.3
+
+  pub known-pos : 0 < low_of (get_or s (get_or s 6 0 + i) 0)
+  known-pos = omega (arith, (kept v.0 b s v.1 v.2 i v.3).above, seen-order v.0 b s v.1 v.2)
 
   pub known-order : low_of (get_or s (get_or s 6 0 + i) 0) ≤ high_of (get_or s (get_or s 6 0 + i) 0)
   known-order = (kept v.0 b s v.1 v.2 i v.3).order
@@ -194,6 +198,41 @@ module _ (b s : List ℕ) (x : Text) (key : ℕ) where
       let z : l.i ≡ 0 = omega (arith, l.at) in
       let u = t.none vw k seen a q 0 (omega (arith, l.at)) in
       subst (λ (o : Option Filter). ModIs o b s (outer vw) a 0) (sym u) refl
+
+-- the same where i numbers are left
+module _ (b s : List ℕ) (x : Text) (key : ℕ) where
+  pub counted-start : Viewed b s → (z : ℕ) → z ≡ end_of b (get_or s 5 0) → Taking b s x key (get_or s 5 0 + 3 + 5 * ((z - get_or s 5 0 - 3) / 5))
+  counted-start v z e =
+      let t = taking-start b s x key z e in
+      let l = t.spot v.0 v.1 v.2 in
+      let f : z ≡ get_or s 5 0 + 3 + 5 * ((z - get_or s 5 0 - 3) / 5) = omega (arith, l.at) in
+      subst (λ (p : ℕ). Taking b s x key p) f t
+
+  module _ (i : ℕ) (t : Taking b s x key (get_or s 5 0 + 3 + 5 * i)) (h : 0 < i) where
+    back : get_or s 5 0 + 3 + 5 * i - 5 ≡ get_or s 5 0 + 3 + 5 * (i - 1)
+    back = omega arith
+
+    low : get_or s 5 0 + 3 < get_or s 5 0 + 3 + 5 * i
+    low = omega arith
+
+    at_back : (n : ℕ) → n ≡ pair_at b (get_or s 5 0 + 3 + 5 * (i - 1) + 3) → n ≡ pair_at b (get_or s 5 0 + 3 + 5 * i - 5 + 3)
+    at_back n e = e ∙ ap (λ (z : ℕ). pair_at b (z + 3)) (sym back)
+
+    pub counted-low : Viewed b s → get_or s 5 0 + 3 + 5 * (i - 1) + 5 ≤ length b
+    counted-low v = omega (arith, (taking-low b s x key (get_or s 5 0 + 3 + 5 * i) t low v).1)
+
+    pub counted-known : Viewed b s → (n : ℕ) → n ≡ pair_at b (get_or s 5 0 + 3 + 5 * (i - 1) + 3) → Known b s n
+    counted-known v n e = taking-known b s x key (get_or s 5 0 + 3 + 5 * i) t low v n (at_back n e)
+
+    module _ (n r : ℕ) (e : n ≡ pair_at b (get_or s 5 0 + 3 + 5 * (i - 1) + 3)) (d : Defined b s n x key r) where
+      pub counted-found : (r ≡ 0 → ⊥) → Includes b s x key r
+      counted-found f = taking-found b s x key (get_or s 5 0 + 3 + 5 * i) t low n r (at_back n e) d f
+
+      pub counted-more : r ≡ 0 → Taking b s x key (get_or s 5 0 + 3 + 5 * (i - 1))
+      counted-more f = subst (λ (p : ℕ). Taking b s x key p) back (taking-more b s x key (get_or s 5 0 + 3 + 5 * i) t low n r (at_back n e) d f)
+
+  pub counted-done : (i : ℕ) → Taking b s x key (get_or s 5 0 + 3 + 5 * i) → i ≤ 0 → Includes b s x key 0
+  counted-done i t h = taking-done b s x key (get_or s 5 0 + 3 + 5 * i) t (omega arith)
 
 -- ---- names with `::`
 
@@ -452,10 +491,6 @@ module _ (b s : List ℕ) (x : Text) (c at a : ℕ) (ec : c ≡ colons_of x) (lt
 
   pub rest-length : length rest ≡ length x - (c + 2)
   rest-length = ap length rest-is ∙ length-drop (c + 2) x
-
-  pub rest-search : length x < 65536 → (w key : ℕ) → w ≡ word_of rest → key ≡ key_of 2 (length rest) a → Search rest w key
-  rest-search l w key ew ek =
-      record { class = 2; arity = a; few = omega arith; short = omega (arith, rest-length); word = ew; is = ek }
 
   pub mod-returns : (p : ℕ) → Imports b s (take c x) p → p ≡ 0 → (o : Hit.Found) → o ≡ lost_of 1 at c → MeansMod b s x c at a o
   mod-returns p i e o eo = subst (λ (u : Hit.Found). MeansMod b s x c at a u) (sym eo) (call-mod-lost b s x c at a p (omega arith) i e)

@@ -1,5 +1,5 @@
 -- What each return and each turn of the searches shows. Assumes nothing.
-use Prim.Native.Nat.{ℕ, suc, ◌+◌, ◌-◌, ◌*◌, ◌≤◌, ◌<◌}
+use Prim.Native.Nat.{ℕ, suc, ◌+◌, ◌-◌, ◌*◌, ◌/◌, ◌%◌, ◌≤◌, ◌<◌}
 use native.Mathlib.Omega.{arith}
 use native.Mathlib.Nat.{add-zero}
 use mathlib.Core.Path.{◌≡◌, refl, sym, ap, subst, ◌∙◌}
@@ -8,7 +8,7 @@ use mathlib.Core.Logic.{inl, inr}
 use mathlib.Core.List.{List, [], ◌∷◌, append-nil}
 use borrow.Author.Tests.{ne_eqb, eq-eqb}
 use lib.ListN.{length, get_or, take, drop}
-use Rattle.tree.specs.Rose.{node, rnil, end_of, text_of, At, Row, inside}
+use Rattle.tree.specs.Rose.{Roses, node, rnil, end_of, text_of, At, Row, inside}
 use Rattle.tree.specs.Form.{f_imports}
 use Rattle.rules.specs.Names.{Text, same}
 use Rattle.rules.specs.Lists.{Member, Every}
@@ -20,8 +20,14 @@ use Rattle.finds.specs.Firsts.{first-cons, first_rest, first-nil, bucket-first, 
 use Rattle.finds.specs.Variables.{seen-order, sought-is}
 use Rattle.finds.specs.Calls.{down_to}
 use Rattle.finds.specs.Modules.{Importing, import-start, import-step, import-done}
+use Rattle.finds.specs.declared.sought.Sought.{Sought}
 use Rattle.finds.specs.Asks as asks
 use Rattle.finds.specs.Asks.{Viewed, Search, Along, Seeks, Imports}
+
+-- ---- what is looked for
+
+pub search-of : (x : Sought) → Search x.name.now x.word x.key
+search-of x = record { class = x.key % 4; arity = x.key / 262144; few = omega arith; short = x.short; word = x.by_word; is = x.by_key }
 
 -- ---- one row
 
@@ -208,6 +214,10 @@ module _ (b s : List ℕ) (x : Text) (w key lo hi j : ℕ) where
 
 pub imports-fit : (b s : List ℕ) → Viewed b s → end_of b (get_or s 4 0) ≤ length b
 imports-fit b s v = inside b (node 0x86 (get_or s 4 0) (f_imports v.0.top.uses.imports rnil)) v.2.base.imports
+
+pub imports-row : (b s : List ℕ) → Viewed b s → (rs : Roses) × Row b rs (get_or s 4 0 + 3) (end_of b (get_or s 4 0))
+unfolding At
+imports-row b s v = (f_imports v.0.top.uses.imports rnil, v.2.base.imports.1)
 
 pub record Passing (b s : List ℕ) (x : Text) (p z r : ℕ) : Type 0 where
   pub goes : (vw : View) (k : ℕ) → Seen vw b s k → Importing b x vw.top.uses.imports p z r

@@ -28,7 +28,7 @@ use Rattle.reads.specs.Folds.{FoldOf}
 use Rattle.reads.specs.declared.width.Fold.{Fold}
 use Rattle.reads.specs.Shapes.{CallAt, on-id, on-recurse, on-arr, on-neg, on-label, on-break, on-ite, on-var, on_call, on-num, on-try, on-fold, on-obj, terms-many}
 use Rattle.cells.specs.Cells.{View, Seen, env_of, outer}
-use Rattle.finds.specs.declared.Found as Hit
+use Rattle.finds.specs.Hits as Hit
 use Rattle.finds.specs.Means.{Finds, HitIs, FoundIs, Means, sought}
 use Rattle.finds.specs.Under.{body_of, defined_by, own_call, Grown, under, grown-variable, grown-own, grown-other, found_width, HasArity, call_length, args-made, found-arity, found-width, missing-kind}
 use Rattle.finds.specs.Wide.{WidthIs, WidthAt, WidthUnder, WidthNamed, var_width, Owns}

@@ -6,7 +6,8 @@ use Rattle.rules.specs.Lists.{Every}
 use Rattle.rules.specs.Filters.{home_of, definition, included, import_named, filter_named, import_meant, error_at}
 use Rattle.reads.specs.Bytes.{word_of}
 use Rattle.cells.specs.Cells.{View, Seen, env_of, outer, key_of, Chain}
-use Rattle.finds.specs.declared.Found as Hit
+use Rattle.finds.specs.Hits as Hit
+use Rattle.finds.specs.Hits.{row_of}
 use Rattle.finds.specs.Means.{matches, first_of, FoundIs}
 use Rattle.finds.specs.Firsts.{Below}
 use Rattle.finds.specs.Bindings.{Legible}
@@ -68,13 +69,7 @@ abbrev pub MeansPlain : List ℕ → List ℕ → Text → ℕ → ℕ → Hit.F
 MeansPlain b s x at a r =
     (vw : View) (k : ℕ) → Seen vw b s k → FoundIs (filter_named vw.top x a (env_of vw b s k)) (error_at vw.top (u_filter a) at x) b s (outer vw) a r
 
--- ---- what is made of a row, and of an error
-
-abbrev pub row_of : ℕ → ℕ → Hit.Found
-row_of kind j = record { kind = kind; j = j; at = 0; len = 0 }
-
-abbrev pub lost_of : ℕ → ℕ → ℕ → Hit.Found
-lost_of kind at len = record { kind = kind; j = 0; at = at; len = len }
+-- ---- past the locals
 
 -- the definition j of a module, or else f
 unfoldable pub outside_of : ℕ → Hit.Found → Hit.Found

@@ -8,3 +8,6 @@ pub mod Modules
 pub mod Asks
 pub mod Under
 pub mod Wide
+pub mod Hits
+pub mod Numbers
+pub mod Gives

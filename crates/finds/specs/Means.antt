@@ -6,7 +6,7 @@ use Rattle.rules.specs.Names.{Text, same}
 use Rattle.rules.specs.Table.{Undefined, u_mod, u_var, u_label, u_filter, Err}
 use Rattle.rules.specs.Rows.{Env, find_label}
 use Rattle.rules.specs.Filters.{variable, Found, nothing, argument, local, of_module, of_native, meant}
-use Rattle.finds.specs.declared.Found as Hit
+use Rattle.finds.specs.Hits as Hit
 use Rattle.reads.specs.Bytes.{names_of, Fields}
 use Rattle.cells.specs.Cells.{View, Seen, env_of, outer, word_at, key_at, arity_at, number_at, kind_at, place_at, before_at, filter_at}
 

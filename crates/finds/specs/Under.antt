@@ -22,7 +22,7 @@ use Rattle.rules.specs.Rules.{term, args, defs, body, defined}
 use Rattle.reads.specs.Bytes.{colons_of}
 use Rattle.reads.specs.Widths.{call_width}
 use Rattle.cells.specs.Cells.{arity_at, kind_at}
-use Rattle.finds.specs.declared.Found as Hit
+use Rattle.finds.specs.Hits as Hit
 use Rattle.finds.specs.Means.{FoundIs, undefined_kind}
 use Rattle.finds.specs.Keys.{and_right, true-T}
 use Rattle.finds.specs.Calls.{names-length}

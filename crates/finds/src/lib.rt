@@ -2,259 +2,203 @@
 
 #![tactic(auto)]
 
+mod sought; // sought.rt: a name that is looked for
 pub mod under; // under.rt: the width of a term with definitions
 
-ghost use Rattle.std.specs.Prelude.{◌≡◌, cond, ℕ, ◌+◌, ◌-◌, ◌*◌, ◌^◌, ◌≤◌, ◌<◌, length};
+ghost use Rattle.std.specs.Prelude.{◌≡◌, Some, ℕ, ◌+◌, ◌-◌, ◌*◌, ◌^◌, ◌≤◌, ◌<◌, length};
 ghost use Rattle.rules.specs.Filters.{home_of};
 ghost use Rattle.reads.specs.Bytes.{colons_of};
 ghost use Rattle.reads.specs.Widths.{call_width};
 ghost use Rattle.cells.specs.Cells.{View, Seen};
+ghost use Rattle.cells.specs.Classes.{class_number};
 ghost use Rattle.finds.specs.Means.{matches, first_of, Finds, Means};
 ghost use Rattle.finds.specs.Calls.{down_to};
-ghost use Rattle.finds.specs.Asks.{Viewed, Search, Row, Along, Seeks, Defined, Includes, Imports, MeansMod, MeansPlain, row_of, lost_of, outside_of};
+ghost use Rattle.finds.specs.Asks.{Viewed, Row, Along, Seeks, Defined, Includes, Imports, MeansMod, MeansPlain, outside_of};
+ghost use Rattle.finds.specs.Gives.{or_zero, Gives};
+ghost use Rattle.finds.specs.Numbers.{numbers};
 
-use cells::{head_of, key};
-use reads::bytes::{colons, end_of, is_text, number_at, same, word};
+use cells::{Class, RowKind, head_of};
+use reads::bytes::{colons, end_of, fields, is_text, number_at, same};
+use sought::Sought;
 
-// Whether row j matches: word, class, length and arity, and the name x itself.
-fn is_row(tree: &[u8], rows: &[u64], j: usize, x: &[u8], w: u64, key: u64) -> bool
-    requires { Search x.now w key × Row tree.now rows.now j }
-    ensures { result ≡ matches tree.now rows.now x.now w key j }
+// Whether row j matches: word, class, length and arity, and the name itself.
+fn is_row(tree: &[u8], rows: &[u64], j: usize, x: &Sought) -> bool
+    requires { Row tree.now rows.now j }
+    ensures { result ≡ matches tree.now rows.now x.now.name.now x.now.word x.now.key j }
 {
-    if rows[4 * j] != w {
+    if rows[4 * j] != x.word {
         return false;
     }
-    if cells::key_at(rows, j) != key {
+    if cells::key_at(rows, j) != x.key {
         return false;
     }
-    same(tree, cells::place(rows, j) + 3, x)
+    same(tree, cells::place(rows, j) + 3, x.name)
 }
 
-// The innermost row in view that matches, from row j of the name's bucket on; 0 for none.
-fn seek(tree: &[u8], rows: &[u64], j: usize, x: &[u8], w: u64, key: u64) -> usize
-    requires { Search x.now w key × Along tree.now rows.now j }
-    ensures { Seeks tree.now rows.now j x.now w key result }
+// The innermost row in view that matches, from row j of the name's bucket on.
+fn seek(tree: &[u8], rows: &[u64], j: usize, x: &Sought) -> Option<usize>
+    requires { Along tree.now rows.now j }
+    ensures { Gives (Seeks tree.now rows.now j x.now.name.now x.now.word x.now.key) result }
 {
+    // Kept: a link is part of one number of fixed memory, and row 0 is none.
     let mut i = j;
     while i != 0 {
-        if is_row(tree, rows, i, x, w, key) {
-            return i;
+        if is_row(tree, rows, i, x) {
+            return Some(i);
         }
         i = cells::link(rows, i);
     }
-    0
+    None
 }
 
-// The innermost variable (class 0) or label (1) of the name x: a local, else a variable that the module imports, else a global; 0 for none.
-pub fn find(tree: &[u8], rows: &[u64], x: &[u8], class: u64) -> usize
-    requires { Viewed tree.now rows.now × (length x.now < 65536) × (class < 2) }
-    ensures { Finds tree.now rows.now x.now class result }
+// The innermost variable or label of the name x: a local, else a variable that the module imports, else a global.
+pub fn find(tree: &[u8], rows: &[u64], x: &[u8], class: Class) -> Option<usize>
+    requires { Viewed tree.now rows.now × (length x.now < 65536) × (class_number class < 2) }
+    ensures { Gives (Finds tree.now rows.now x.now (class_number class)) result }
 {
-    let w = word(x);
-    let h = head_of(rows, w, x.len());
-    seek(tree, rows, rows[h] as usize, x, w, key(class, x.len(), 0))
+    let sought = Sought::new(x, class, 0);
+    let h = head_of(rows, sought.word, x.len());
+    seek(tree, rows, rows[h] as usize, &sought)
 }
 
-// What a call means: a row j, or an error with the place and the length of the name that it is of.
+// What a call means: a row, or an error with the place and the length of the name that it is of.
 #[derive(Clone, Copy)]
-pub struct Found {
-    pub kind: u8,
-    pub j: usize,
-    pub at: usize,
-    pub len: usize,
+pub enum Meaning {
+    NoFilter { at: usize, len: usize },
+    NoModule { at: usize, len: usize },
+    Argument(usize),
+    // Definitions: one that encloses the call, one that stands before it, one of a module.
+    Parent(usize),
+    Sibling(usize),
+    Outer(usize),
+    Native(usize),
 }
 
-pub const NO_FILTER: u8 = 0;
-
-pub const NO_MODULE: u8 = 1;
-
-pub const ARGUMENT: u8 = 2;
-
-// Definitions: one that encloses the call, one that stands before it, one of a module.
-pub const PARENT: u8 = 3;
-
-pub const SIBLING: u8 = 4;
-
-pub const OUTER: u8 = 5;
-
-pub const NATIVE: u8 = 6;
-
-fn row(kind: u8, j: usize) -> Found
-    ensures { result ≡ row_of kind j }
+// "last definition first": from row lo up to hi.
+fn within(tree: &[u8], rows: &[u64], lo: usize, hi: usize, x: &Sought) -> Option<usize>
+    requires { (0 < lo) × (lo ≤ hi) × ((j : ℕ) → lo ≤ j → j < hi → Row tree.now rows.now j) }
+    ensures { Gives (λ r. r ≡ first_of (matches tree.now rows.now x.now.name.now x.now.word x.now.key) (down_to lo (hi - lo))) result }
 {
-    Found {
-        kind,
-        j,
-        at: 0,
-        len: 0,
-    }
-}
-
-fn lost(kind: u8, at: usize, len: usize) -> Found
-    ensures { result ≡ lost_of kind at len }
-{
-    Found {
-        kind,
-        j: 0,
-        at,
-        len,
-    }
-}
-
-// "last definition first": from row lo up to hi; 0 for none.
-fn within(tree: &[u8], rows: &[u64], lo: usize, hi: usize, x: &[u8], w: u64, key: u64) -> usize
-    requires { Search x.now w key × (lo ≤ hi) × ((j : ℕ) → lo ≤ j → j < hi → Row tree.now rows.now j) }
-    ensures { result ≡ first_of (matches tree.now rows.now x.now w key) (down_to lo (hi - lo)) }
-{
-    let mut j = hi;
-    while lo < j {
-        j -= 1;
-        if is_row(tree, rows, j, x, w, key) {
-            return j;
+    for j in (lo..hi).rev() {
+        if is_row(tree, rows, j, x) {
+            return Some(j);
         }
     }
-    0
+    None
 }
 
-// The definition of module i that matches; 0 for none. The module's cell says where its rows start and end.
-fn defined(tree: &[u8], rows: &[u64], i: usize, x: &[u8], w: u64, key: u64) -> usize
-    requires { Search x.now w key × ((vw : View) × (k : ℕ) × Seen vw tree.now rows.now k × (i < home_of vw.top)) }
-    ensures { Defined tree.now rows.now i x.now key result }
+// The definition of module i that matches. The module's cell says where its rows start and end.
+fn defined(tree: &[u8], rows: &[u64], i: usize, x: &Sought) -> Option<usize>
+    requires { (vw : View) × (k : ℕ) × Seen vw tree.now rows.now k × (i < home_of vw.top) }
+    ensures { Gives (Defined tree.now rows.now i x.now.name.now x.now.key) result }
 {
     let at = rows[cells::MODULES] as usize + i;
     let c = rows[at];
-    within(
-        tree,
-        rows,
-        (c % 65536) as usize,
-        (c / 65536) as usize,
-        x,
-        w,
-        key,
-    )
+    within(tree, rows, (c % 65536) as usize, (c / 65536) as usize, x)
 }
 
 // "then included modules, last first": their numbers are fields of 5 bytes each.
-fn included(tree: &[u8], rows: &[u64], x: &[u8], w: u64, key: u64) -> usize
-    requires { Search x.now w key × Viewed tree.now rows.now }
-    ensures { Includes tree.now rows.now x.now key result }
+fn included(tree: &[u8], rows: &[u64], x: &Sought) -> Option<usize>
+    requires { Viewed tree.now rows.now }
+    ensures { Gives (Includes tree.now rows.now x.now.name.now x.now.key) result }
 {
     let q = rows[cells::INCLUDES] as usize;
-    let mut p = end_of(tree, q);
-    while q + 3 < p {
-        p -= 5;
-        let j = defined(tree, rows, number_at(tree, p), x, w, key);
-        if j != 0 {
-            return j;
+    let n = (end_of(tree, q) - q - 3) / 5;
+    for i in (0..n).rev() {
+        if let Some(j) = defined(tree, rows, number_at(tree, q + 3 + 5 * i), x) {
+            return Some(j);
         }
     }
-    0
+    None
 }
 
-fn choose(t: bool, a: usize, b: usize) -> usize
-    ensures { result ≡ cond t a b }
-{
-    if t {
-        return a;
-    }
-    b
-}
-
-// "last import of that name": the place of its field, 0 for none.
-fn import(tree: &[u8], rows: &[u64], x: &[u8]) -> usize
+// "last import of that name": the place of its field.
+fn import(tree: &[u8], rows: &[u64], x: &[u8]) -> Option<usize>
     requires { Viewed tree.now rows.now }
-    ensures { Imports tree.now rows.now x.now result }
+    ensures { Gives (Imports tree.now rows.now x.now) result }
 {
     let q = rows[cells::IMPORTS] as usize;
-    let z = end_of(tree, q);
-    let mut p = q + 3;
-    let mut r = 0;
-    while p < z {
-        r = choose(is_text(tree, p + 8, x), p, r);
-        p = end_of(tree, p);
+    let mut found = None;
+    for p in fields(tree, q + 3, end_of(tree, q)) {
+        if is_text(tree, p + 8, x) {
+            found = Some(p);
+        }
     }
-    r
+    found
 }
 
 // "With `::` (first occurrence): last import of that name, and only it; Mod error names the module part, Filter error the rest." The `::` of the
 // name x, which stands at `at`, is at c.
-fn call_mod(tree: &[u8], rows: &[u64], x: &[u8], c: usize, at: usize, a: usize) -> Found
+fn call_mod(tree: &[u8], rows: &[u64], x: &[u8], c: usize, at: usize, a: usize) -> Meaning
     requires { Viewed tree.now rows.now × (length x.now < 65536) × (c ≡ colons_of x.now) × (c < length x.now) × (at < 2 ^ 32) × (a < 65536) }
-    ensures { MeansMod tree.now rows.now x.now c at a result }
+    ensures { MeansMod tree.now rows.now x.now c at a (numbers result) }
 {
-    let p = import(tree, rows, &x[..c]);
-    if p == 0 {
-        return lost(NO_MODULE, at, c);
-    }
+    let Some(p) = import(tree, rows, &x[..c]) else {
+        return Meaning::NoModule { at, len: c };
+    };
     let s = c + 2;
     let y = &x[s..];
-    let j = defined(
-        tree,
-        rows,
-        number_at(tree, p + 3),
-        y,
-        word(y),
-        key(cells::FILTER, y.len(), a),
-    );
-    if j == 0 {
-        return lost(NO_FILTER, at + s, y.len());
+    let sought = Sought::new(y, Class::Filter, a);
+    match defined(tree, rows, number_at(tree, p + 3), &sought) {
+        Some(j) => Meaning::Outer(j),
+        None => Meaning::NoFilter {
+            at: at + s,
+            len: y.len(),
+        },
     }
-    row(OUTER, j)
 }
 
 // Past the locals: the definition j of an included module, or else f.
-fn outside(j: usize, f: Found) -> Found
-    ensures { result ≡ outside_of j f }
+fn outside(j: Option<usize>, f: Meaning) -> Meaning
+    requires { j ≡ Some 0 → ⊥ }
+    ensures { numbers result ≡ outside_of (or_zero j) (numbers f) }
 {
-    if j == 0 {
-        return f;
+    match j {
+        Some(j) => Meaning::Outer(j),
+        None => f,
     }
-    row(OUTER, j)
 }
 
 // "Filter by name and arity: innermost local; then included modules, ..; then natives, first one first; else Filter error with arity." Natives are
 // the outermost rows in view, and the first one is the innermost of them.
-fn local(tree: &[u8], rows: &[u64], x: &[u8], at: usize, a: usize) -> Found
+fn local(tree: &[u8], rows: &[u64], x: &[u8], at: usize, a: usize) -> Meaning
     requires { Viewed tree.now rows.now × (length x.now < 65536) × (a < 65536) }
-    ensures { MeansPlain tree.now rows.now x.now at a result }
+    ensures { MeansPlain tree.now rows.now x.now at a (numbers result) }
 {
-    let w = word(x);
-    let u = key(cells::FILTER, x.len(), a);
-    let h = head_of(rows, w, x.len());
-    let j = seek(tree, rows, rows[h] as usize, x, w, u);
-    if j == 0 {
-        return outside(included(tree, rows, x, w, u), lost(NO_FILTER, at, x.len()));
-    }
-    let k = cells::kind(rows, j);
-    match k {
-        2 => row(ARGUMENT, j),
-        3 => row(PARENT, j),
-        4 => row(SIBLING, j),
-        _ => outside(included(tree, rows, x, w, u), row(NATIVE, j)),
+    let sought = Sought::new(x, Class::Filter, a);
+    let h = head_of(rows, sought.word, x.len());
+    let Some(j) = seek(tree, rows, rows[h] as usize, &sought) else {
+        let lost = Meaning::NoFilter { at, len: x.len() };
+        return outside(included(tree, rows, &sought), lost);
+    };
+    match cells::kind(rows, j) {
+        RowKind::Arg => Meaning::Argument(j),
+        RowKind::Parent => Meaning::Parent(j),
+        RowKind::Sibling => Meaning::Sibling(j),
+        _ => outside(included(tree, rows, &sought), Meaning::Native(j)),
     }
 }
 
 // What a call of the name x, which stands at `at`, with a arguments means.
-pub fn call(tree: &[u8], rows: &[u64], x: &[u8], at: usize, a: usize) -> Found
+pub fn call(tree: &[u8], rows: &[u64], x: &[u8], at: usize, a: usize) -> Meaning
     requires { Viewed tree.now rows.now × (length x.now < 65536) × (at < 2 ^ 32) × (a < 65536) }
-    ensures { Means tree.now rows.now x.now at a result }
+    ensures { Means tree.now rows.now x.now at a (numbers result) }
 {
-    let c = colons(x);
-    if c < x.len() {
-        return call_mod(tree, rows, x, c, at, a);
+    match colons(x) {
+        Some(c) => call_mod(tree, rows, x, c, at, a),
+        None => local(tree, rows, x, at, a),
     }
-    local(tree, rows, x, at, a)
 }
 
 // The length of the record of a call with a arguments.
-pub fn call_width(kind: u8, a: usize) -> usize
+pub fn call_width(f: Meaning, a: usize) -> usize
     requires { a < 65536 }
-    ensures { result ≡ call_width kind a }
+    ensures { result ≡ call_width (numbers f).kind a }
 {
-    match kind {
-        0 | 1 => 3,
-        2 => 5,
-        6 => 7 + 3 * a,
-        _ => 10 + 3 * a,
+    match f {
+        Meaning::NoFilter { .. } | Meaning::NoModule { .. } => 3,
+        Meaning::Argument(_) => 5,
+        Meaning::Native(_) => 7 + 3 * a,
+        Meaning::Parent(_) | Meaning::Sibling(_) | Meaning::Outer(_) => 10 + 3 * a,
     }
 }

@@ -4,23 +4,25 @@ ghost use Rattle.tree.specs.Rose.{Roses, rnil, rcons, end_of, Row};
 ghost use Rattle.tree.specs.Tree.{Term, Defs, Def};
 ghost use Rattle.tree.specs.Form.{f_term, f_defs};
 ghost use Rattle.reads.specs.Bytes.{TermAt, DefAt};
+ghost use Rattle.cells.specs.Classes.{class_number};
 ghost use Rattle.finds.specs.Asks.{Viewed};
 ghost use Rattle.finds.specs.Under.{body_of, def_fits, declared_by};
 ghost use Rattle.finds.specs.Wide.{WidthAt, WidthUnder, WidthNamed, Stands, Defines, Owns};
 
 use crate::{call, call_width, find};
+use cells::Class;
 use reads::bytes::{end_of, is_text, members};
 use reads::{bytes, width};
 
-fn named_width(b: &[u8], p: usize, rows: &[u64], class: u64) -> usize
-    requires { Viewed b.now rows.now × (length b.now ≤ 32768) × (end_of b.now p ≤ length b.now) × (class < 2) }
-    ensures { (WidthNamed b.now rows.now p class result) × (result ≤ 5) }
+fn named_width(b: &[u8], p: usize, rows: &[u64], class: Class) -> usize
+    requires { Viewed b.now rows.now × (length b.now ≤ 32768) × (end_of b.now p ≤ length b.now) × (class_number class < 2) }
+    ensures { (WidthNamed b.now rows.now p (class_number class) result) × (result ≤ 5) }
 {
     let z = end_of(b, p);
-    if find(b, rows, &b[p + 3..z], class) == 0 {
-        return 3;
+    match find(b, rows, &b[p + 3..z], class) {
+        Some(_) => 5,
+        None => 3,
     }
-    5
 }
 
 // The term that the definitions of p are for: past them, and past those that it has itself.
@@ -81,10 +83,10 @@ fn is_own(b: &[u8], p: usize, x: &[u8], a: usize) -> bool
     requires { (t : Term) × TermAt b.now t p }
     ensures { Owns b.now p x.now a result }
 {
-    if bytes::colons(x) < x.len() {
-        return false;
+    match bytes::colons(x) {
+        Some(_) => false,
+        None => defines(b, p, x, a),
     }
-    defines(b, p, x, a)
 }
 
 // The own record of the call at q, which the definitions of p are for: whichever of them it means, it is a call of a definition.
@@ -98,7 +100,7 @@ fn called_width(b: &[u8], p: usize, q: usize, rows: &[u64]) -> usize
     if is_own(b, p, x, a) {
         return 10 + 3 * a;
     }
-    call_width(call(b, rows, x, q + 6, a).kind, a)
+    call_width(call(b, rows, x, q + 6, a), a)
 }
 
 // The own record of the term at q, which the definitions of p are for.
@@ -110,9 +112,9 @@ fn own_width(b: &[u8], p: usize, q: usize, rows: &[u64]) -> usize
     match tag {
         0xA0 | 0xA1 => 3,
         0xA2 | 0xA3 | 0xA4 => 5,
-        0xA5 => named_width(b, q, rows, 1),
+        0xA5 => named_width(b, q, rows, Class::Label),
         0xA6 => 9,
-        0xA7 => named_width(b, q, rows, 0),
+        0xA7 => named_width(b, q, rows, Class::Variable),
         0xA8 => called_width(b, p, q, rows),
         0xAA => width::num_width(b, q),
         0xAB => 7,

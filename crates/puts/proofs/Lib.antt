@@ -3,3 +3,4 @@ pub mod Masks
 pub mod Spots
 pub mod Wide
 pub mod Chars
+pub mod Pairing

@@ -1,3 +1,5 @@
 pub mod State
 pub mod Runs
 pub mod Rooms
+pub mod Calls
+pub mod Pairs

@@ -1,6 +1,6 @@
 -- How what is put is put together: one after the other, and a term's own record with what it contains. None of it knows the language. Assumes nothing.
-use Rattle.std.specs.Prelude.{ℕ, ◌+◌, ◌≤◌, ◌<◌, ◌≡◌, refl, Bool, true, false, cond, ◌⊎◌, List, [], ◌∷◌, ◌++◌, eqb, length, get_or, set}
-use Rattle.std.proofs.Common.{arith, sym, ap, ap₂, subst, ◌∙◌, inl, inr, append_assoc, append-nil, length-set, length-append, get_or-set_same, get_or-set_other, set-set, eq-eqb, ne_eqb, eqb-true}
+use Rattle.std.specs.Prelude.{ℕ, ◌+◌, ◌≤◌, ◌<◌, ◌≡◌, refl, Bool, true, false, cond, ◌⊎◌, List, [], ◌∷◌, ◌++◌, eqb, length}
+use Rattle.std.proofs.Common.{arith, sym, ap, ap₂, subst, ◌∙◌, inl, inr, append_assoc, append-nil, length-append, eq-eqb, ne_eqb, eqb-true}
 use Rattle.std.proofs.lemmas.Bool.{eqb-false}
 use Rattle.fields.specs.Field.{field, length-field}
 use Rattle.fields.specs.Room.{overlay, overlay-none, overlay-append, overlay-before, overlay-out, length-overlay}
@@ -8,7 +8,8 @@ use Rattle.rules.specs.Table.{Rec, Err, Node, n_id, n_recurse, n_to_string, n_in
 use Rattle.rules.specs.Tails.{Tail}
 use Rattle.rules.specs.Outs.{Out, slot, node, leaf, fail}
 use Rattle.rules.specs.Listing.{node_bytes, rec_bytes, table_bytes, err_bytes, errs_bytes}
-use Rattle.puts.specs.State.{num, off, ers, late, start_of, spot_of, next_of, members_at, members_end, Put, Own}
+use Rattle.puts.specs.declared.state.State.{State}
+use Rattle.puts.specs.State.{num, off, ers, with_num, with_off, with_ers, late, start_of, spot_of, next_of, members_at, members_end, Put, Own}
 use Rattle.puts.specs.Runs.{run-then}
 
 pub table-append : (a b : List Rec) → table_bytes 2 (a ++ b) ≡ table_bytes 2 a ++ table_bytes 2 b
@@ -19,25 +20,23 @@ pub errs-append : (a b : List Err) → errs_bytes 2 (a ++ b) ≡ errs_bytes 2 a 
 errs-append [] b = refl
 errs-append (x ∷ a) b = rw (errs-append a b, append_assoc)
 
-pub put-none : (st d : List ℕ) → Put [] [] st st d d
+pub put-none : (st : State) (d : List ℕ) → Put [] [] st st d d
 put-none st d =
     record {
       nums = omega arith;
       offs = omega arith;
       errs = omega arith;
-      same = refl;
       size = refl;
       table = λ h. sym (overlay-none d (off st));
       errors = λ h. sym (overlay-none d (ers st));
     }
 
-pub put_then : (a b : List Rec) (e f : List Err) (st st₁ st₂ d d₁ d₂ : List ℕ) → Put a e st st₁ d d₁ → Put b f st₁ st₂ d₁ d₂ → Put (a ++ b) (e ++ f) st st₂ d d₂
+pub put_then : (a b : List Rec) (e f : List Err) (st st₁ st₂ : State) (d d₁ d₂ : List ℕ) → Put a e st st₁ d d₁ → Put b f st₁ st₂ d₁ d₂ → Put (a ++ b) (e ++ f) st st₂ d d₂
 put_then a b e f st st₁ st₂ d d₁ d₂ p q =
     record {
       nums = omega (arith, p.nums, q.nums, length-append a b);
       offs = rw (table-append a b) (omega (arith, p.offs, q.offs, length-append (table_bytes 2 a) (table_bytes 2 b)));
       errs = rw (errs-append e f) (omega (arith, p.errs, q.errs, length-append (errs_bytes 2 e) (errs_bytes 2 f)));
-      same = q.same ∙ p.same;
       size = q.size ∙ p.size;
       table = λ h. both (off st₁) (off st) (table_bytes 2 a) (table_bytes 2 b) (table_bytes 2 (a ++ b)) p.offs (table-append a b) (p.table h) (q.table (omega (arith, h, p.errs, p.size)));
       errors = λ h. both (ers st₁) (ers st) (errs_bytes 2 e) (errs_bytes 2 f) (errs_bytes 2 (e ++ f)) p.errs (errs-append e f) (p.errors h) (q.errors (omega (arith, h, p.offs, p.size)));
@@ -181,19 +180,18 @@ rec-some r = go r.node
     go (n_path a l) = field-some _ _
 
 -- a term's own record is put where it belongs, once its members are
-pub own_of : (q : Out) (o w : ℕ) (st st₁ st₂ st₃ d d₁ d₂ : List ℕ)
+pub own_of : (q : Out) (o w : ℕ) (st st₁ st₂ st₃ : State) (d d₁ d₂ : List ℕ)
     → w ≡ length (rec_bytes 2 q.self)
-    → num st₁ ≡ num st → off st₁ ≡ start_of o (off st) w → ers st₁ ≡ ers st → length st₁ ≡ length st
+    → num st₁ ≡ num st → off st₁ ≡ start_of o (off st) w → ers st₁ ≡ ers st
     → Put q.more q.errs st₁ st₂ d d₁
-    → num st₃ ≡ num st₂ → off st₃ ≡ next_of o (off st₂) w → ers st₃ ≡ ers st₂ → length st₃ ≡ length st₂
+    → num st₃ ≡ num st₂ → off st₃ ≡ next_of o (off st₂) w → ers st₃ ≡ ers st₂
     → d₂ ≡ overlay d₁ (spot_of o (off st₂)) (rec_bytes 2 q.self)
     → Own q o st st₃ d d₂
-own_of q o w st st₁ st₂ st₃ d d₁ d₂ g n₁ o₁ e₁ l₁ p n₃ o₃ e₃ l₃ i =
+own_of q o w st st₁ st₂ st₃ d d₁ d₂ g n₁ o₁ e₁ p n₃ o₃ e₃ i =
     record {
       nums = omega (arith, n₁, n₃, p.nums);
       offs = o₃ ∙ ap₂ (λ x y. next_of o x y) end g;
       errs = omega (arith, e₁, e₃, p.errs);
-      same = l₃ ∙ p.same ∙ l₁;
       size = ap length i ∙ length-overlay d₁ (spot_of o (off st₂)) (rec_bytes 2 q.self) ∙ p.size;
       table = λ h. i ∙ ap₂ (λ x y. overlay x (spot_of o y) (rec_bytes 2 q.self)) (p.table (omega (arith, e₁, h)) ∙ ap (λ x. overlay d x (table_bytes 2 q.more)) start) end;
       errors = λ h k.
@@ -210,15 +208,14 @@ own_of q o w st st₁ st₂ st₃ d d₁ d₂ g n₁ o₁ e₁ l₁ p n₃ o₃ 
     end = p.offs ∙ ap (λ x. x + length (table_bytes 2 q.more)) start
 
 -- with its number reserved, and at the next offset, it is put with what it contains behind it
-pub slot_of : (q : Out) (st st₁ st₂ d d₁ : List ℕ)
-    → off st < late → num st₁ ≡ num st + 1 → off st₁ ≡ off st → ers st₁ ≡ ers st → length st₁ ≡ length st
+pub slot_of : (q : Out) (st st₁ st₂ : State) (d d₁ : List ℕ)
+    → off st < late → num st₁ ≡ num st + 1 → off st₁ ≡ off st → ers st₁ ≡ ers st
     → Own q (off st) st₁ st₂ d d₁ → Put (slot q) q.errs st st₂ d d₁
-slot_of q st st₁ st₂ d d₁ l n₁ o₁ e₁ l₁ p =
+slot_of q st st₁ st₂ d d₁ l n₁ o₁ e₁ p =
     record {
       nums = omega (arith, n₁, p.nums);
       offs = p.offs ∙ next-own (off st) (members_end q (off st) st₁) (length (rec_bytes 2 q.self)) l ∙ omega (arith, start, length-append (rec_bytes 2 q.self) (table_bytes 2 q.more));
       errs = omega (arith, e₁, p.errs);
-      same = p.same ∙ l₁;
       size = p.size;
       table = λ h.
           p.table (omega (arith, e₁, h))
@@ -231,16 +228,15 @@ slot_of q st st₁ st₂ d d₁ l n₁ o₁ e₁ l₁ p =
     start = ap (λ x. start_of (off st) x (length (rec_bytes 2 q.self))) o₁ ∙ start-own (off st) (length (rec_bytes 2 q.self))
 
 -- a term whose own number and record come behind what it contains
-pub late_of : (q : Out) (st st₁ st₂ d d₁ : List ℕ)
+pub late_of : (q : Out) (st st₁ st₂ : State) (d d₁ : List ℕ)
     → off st < late → Own q late st st₁ d d₁
-    → num st₂ ≡ num st₁ + 1 → off st₂ ≡ off st₁ → ers st₂ ≡ ers st₁ → length st₂ ≡ length st₁
+    → num st₂ ≡ num st₁ + 1 → off st₂ ≡ off st₁ → ers st₂ ≡ ers st₁
     → Put (q.more ++ (q.self ∷ [])) q.errs st st₂ d d₁
-late_of q st st₁ st₂ d d₁ l p n₂ o₂ e₂ l₂ =
+late_of q st st₁ st₂ d d₁ l p n₂ o₂ e₂ =
     record {
       nums = omega (arith, n₂, p.nums, length-append q.more (q.self ∷ []));
       offs = o₂ ∙ end ∙ omega (arith, length-append (table_bytes 2 q.more) (rec_bytes 2 q.self), ap length bytes);
       errs = e₂ ∙ p.errs;
-      same = l₂ ∙ p.same;
       size = p.size;
       table = λ h.
           p.table h
@@ -259,66 +255,38 @@ late_of q st st₁ st₂ d d₁ l p n₂ o₂ e₂ l₂ =
     bytes : table_bytes 2 (q.more ++ (q.self ∷ [])) ≡ table_bytes 2 q.more ++ rec_bytes 2 q.self
     bytes = table-append q.more (q.self ∷ []) ∙ ap (λ x. table_bytes 2 q.more ++ x) (append-nil (rec_bytes 2 q.self))
 
--- ---- the same, as the contracts of the state's functions give it: each stores into the three numbers
-
-module _ (st : List ℕ) (three : length st ≡ 3) where
-  -- a store of the next offset
-  pub off-off : (st₁ : List ℕ) (x : ℕ) → st₁ ≡ set st 1 x → off st₁ ≡ x
-  off-off st₁ x e = ap (λ l. off l) e ∙ get_or-set_same st 1 x 0 (omega (arith, three))
-
-  -- a store of the next number
-  pub num-num : (st₁ : List ℕ) (x : ℕ) → st₁ ≡ set st 0 x → num st₁ ≡ x
-  num-num st₁ x e = ap (λ l. num l) e ∙ get_or-set_same st 0 x 0 (omega (arith, three))
-
-  -- a store of the errors' offset
-  pub ers-ers : (st₁ : List ℕ) (x : ℕ) → st₁ ≡ set st 2 x → ers st₁ ≡ x
-  ers-ers st₁ x e = ap (λ l. ers l) e ∙ get_or-set_same st 2 x 0 (omega (arith, three))
-
--- each store keeps the others, and the length
-pub kept : (i j : ℕ) (st st₁ : List ℕ) (x : ℕ) → (j ≡ i → ⊥) → st₁ ≡ set st i x → get_or st₁ j 0 ≡ get_or st j 0
-kept i j st st₁ x h e = ap (λ l. get_or l j 0) e ∙ get_or-set_other st i j x 0 h
-
-pub long : (i : ℕ) (st st₁ : List ℕ) (x : ℕ) → st₁ ≡ set st i x → length st₁ ≡ length st
-long i st st₁ x e = ap length e ∙ length-set st i x
+-- ---- the same, as the contracts of the state's functions give it: each stores into the state
 
 -- a record with the next number
-pub put_one : (r : Rec) (w x : ℕ) (st st₁ d d₁ : List ℕ)
-    → length st ≡ 3 → w ≡ length (rec_bytes 2 r)
-    → x ≡ off st → st₁ ≡ set (set st 0 (num st + 1)) 1 (off st + w)
+pub put_one : (r : Rec) (w x : ℕ) (st st₁ : State) (d d₁ : List ℕ)
+    → w ≡ length (rec_bytes 2 r)
+    → x ≡ off st → st₁ ≡ with_off (with_num st (num st + 1)) (off st + w)
     → d₁ ≡ overlay d x (rec_bytes 2 r)
     → Put (r ∷ []) [] st st₁ d d₁
-put_one r w x st st₁ d d₁ t g i e j =
+put_one r w x st st₁ d d₁ g i e j =
     record {
-      nums = kept 1 0 st₀ st₁ _ (λ h. omega (arith, h)) e ∙ num-num st t st₀ _ refl;
-      offs = off-off st₀ t₀ st₁ _ e ∙ omega (arith, g, ap length bytes);
-      errs = kept 1 2 st₀ st₁ _ (λ h. omega (arith, h)) e ∙ kept 0 2 st st₀ _ (λ h. omega (arith, h)) refl ∙ omega arith;
-      same = long 1 st₀ st₁ _ e ∙ long 0 st st₀ _ refl;
+      nums = ap num e;
+      offs = ap off e ∙ omega (arith, g, ap length bytes);
+      errs = ap ers e ∙ omega arith;
       size = ap length j ∙ length-overlay d x (rec_bytes 2 r);
       table = λ h. j ∙ ap₂ (λ y b. overlay d y b) i (sym bytes);
       errors = λ h. j ∙ overlay-out d x (rec_bytes 2 r) (omega (arith, h, i)) ∙ sym (overlay-none d (ers st));
     }
   where
-    st₀ : List ℕ
-    st₀ = set st 0 (num st + 1)
-
-    t₀ : length st₀ ≡ 3
-    t₀ = long 0 st st₀ _ refl ∙ t
-
     bytes : rec_bytes 2 r ++ [] ≡ rec_bytes 2 r
     bytes = append-nil (rec_bytes 2 r)
 
 -- an error
-pub put-error : (x : Err) (w y : ℕ) (st st₁ d d₁ : List ℕ)
-    → length st ≡ 3 → w ≡ length (err_bytes 2 x)
-    → y ≡ ers st → st₁ ≡ set st 2 (ers st + w)
+pub put-error : (x : Err) (w y : ℕ) (st st₁ : State) (d d₁ : List ℕ)
+    → w ≡ length (err_bytes 2 x)
+    → y ≡ ers st → st₁ ≡ with_ers st (ers st + w)
     → d₁ ≡ overlay d y (err_bytes 2 x)
     → Put [] (x ∷ []) st st₁ d d₁
-put-error x w y st st₁ d d₁ t g i e j =
+put-error x w y st st₁ d d₁ g i e j =
     record {
-      nums = kept 2 0 st st₁ _ (λ h. omega (arith, h)) e ∙ omega arith;
-      offs = kept 2 1 st st₁ _ (λ h. omega (arith, h)) e ∙ omega arith;
-      errs = ers-ers st t st₁ _ e ∙ omega (arith, g, ap length bytes);
-      same = long 2 st st₁ _ e;
+      nums = ap num e ∙ omega arith;
+      offs = ap off e ∙ omega arith;
+      errs = ap ers e ∙ omega (arith, g, ap length bytes);
       size = ap length j ∙ length-overlay d y (err_bytes 2 x);
       table = λ h. j ∙ overlay-out d y (err_bytes 2 x) (omega (arith, h, i)) ∙ sym (overlay-none d (off st));
       errors = λ h. j ∙ ap₂ (λ z b. overlay d z b) i (sym bytes);
@@ -328,89 +296,85 @@ put-error x w y st st₁ d d₁ t g i e j =
     bytes = append-nil (err_bytes 2 x)
 
 -- records alone behind what was put, and errors alone
-pub put-more : (a b : List Rec) (e : List Err) (st st₁ st₂ d d₁ d₂ : List ℕ) → Put a e st st₁ d d₁ → Put b [] st₁ st₂ d₁ d₂ → Put (a ++ b) e st st₂ d d₂
+pub put-more : (a b : List Rec) (e : List Err) (st st₁ st₂ : State) (d d₁ d₂ : List ℕ) → Put a e st st₁ d d₁ → Put b [] st₁ st₂ d₁ d₂ → Put (a ++ b) e st st₂ d d₂
 put-more a b e st st₁ st₂ d d₁ d₂ p q = subst (λ (f : List Err). Put (a ++ b) f st st₂ d d₂) (append-nil e) (put_then a b e [] st st₁ st₂ d d₁ d₂ p q)
 
-pub put-errs : (a : List Rec) (e f : List Err) (st st₁ st₂ d d₁ d₂ : List ℕ) → Put a e st st₁ d d₁ → Put [] f st₁ st₂ d₁ d₂ → Put a (e ++ f) st st₂ d d₂
+pub put-errs : (a : List Rec) (e f : List Err) (st st₁ st₂ : State) (d d₁ d₂ : List ℕ) → Put a e st st₁ d d₁ → Put [] f st₁ st₂ d₁ d₂ → Put a (e ++ f) st st₂ d d₂
 put-errs a e f st st₁ st₂ d d₁ d₂ p q = subst (λ (b : List Rec). Put b (e ++ f) st st₂ d d₂) (append-nil a) (put_then a [] e f st st₁ st₂ d d₁ d₂ p q)
 
 -- its own number is reserved, and its own record stands at the next offset
-pub slot-own : (q : Out) (st st₁ st₂ d d₁ : List ℕ)
-    → length st ≡ 3 → off st < late → st₁ ≡ set st 0 (num st + 1)
+pub slot-own : (q : Out) (st st₁ st₂ : State) (d d₁ : List ℕ)
+    → off st < late → st₁ ≡ with_num st (num st + 1)
     → Own q (off st) st₁ st₂ d d₁ → Put (slot q) q.errs st st₂ d d₁
-slot-own q st st₁ st₂ d d₁ t l e p =
-    slot_of q st st₁ st₂ d d₁ l (num-num st t st₁ _ e) (kept 0 1 st st₁ _ (λ h. omega (arith, h)) e) (kept 0 2 st st₁ _ (λ h. omega (arith, h)) e) (long 0 st st₁ _ e) p
+slot-own q st st₁ st₂ d d₁ l e p =
+    slot_of q st st₁ st₂ d d₁ l (ap num e) (ap off e) (ap ers e) p
 
 -- its own record stands behind what it contains, and has the next number then
-pub slot-late : (q : Out) (st st₁ st₂ d d₁ : List ℕ)
-    → length st ≡ 3 → off st < late
-    → Own q late st st₁ d d₁ → st₂ ≡ set st₁ 0 (num st₁ + 1)
+pub slot-late : (q : Out) (st st₁ st₂ : State) (d d₁ : List ℕ)
+    → off st < late
+    → Own q late st st₁ d d₁ → st₂ ≡ with_num st₁ (num st₁ + 1)
     → Put (q.more ++ (q.self ∷ [])) q.errs st st₂ d d₁
-slot-late q st st₁ st₂ d d₁ t l p e =
-    late_of q st st₁ st₂ d d₁ l p (num-num st₁ (p.same ∙ t) st₂ _ e) (kept 0 1 st₁ st₂ _ (λ h. omega (arith, h)) e) (kept 0 2 st₁ st₂ _ (λ h. omega (arith, h)) e) (long 0 st₁ st₂ _ e)
+slot-late q st st₁ st₂ d d₁ l p e =
+    late_of q st st₁ st₂ d d₁ l p (ap num e) (ap off e) (ap ers e)
 
 -- room is reserved, the members are put, and the own record is put in its place
-pub own-node : (q : Out) (o w x : ℕ) (st st₁ st₂ st₃ d d₁ d₂ : List ℕ)
-    → length st ≡ 3 → w ≡ length (rec_bytes 2 q.self)
-    → st₁ ≡ set st 1 (start_of o (off st) w)
+pub own-node : (q : Out) (o w x : ℕ) (st st₁ st₂ st₃ : State) (d d₁ d₂ : List ℕ)
+    → w ≡ length (rec_bytes 2 q.self)
+    → st₁ ≡ with_off st (start_of o (off st) w)
     → Put q.more q.errs st₁ st₂ d d₁
-    → x ≡ spot_of o (off st₂) → st₃ ≡ set st₂ 1 (next_of o (off st₂) w)
+    → x ≡ spot_of o (off st₂) → st₃ ≡ with_off st₂ (next_of o (off st₂) w)
     → d₂ ≡ overlay d₁ x (rec_bytes 2 q.self)
     → Own q o st st₃ d d₂
-own-node q o w x st st₁ st₂ st₃ d d₁ d₂ t g e p i f j =
-    let t₂ : length st₂ ≡ 3 = p.same ∙ long 1 st st₁ _ e ∙ t in
+own-node q o w x st st₁ st₂ st₃ d d₁ d₂ g e p i f j =
     own_of q o w st st₁ st₂ st₃ d d₁ d₂ g
-    (kept 1 0 st st₁ _ (λ h. omega (arith, h)) e) (off-off st t st₁ _ e) (kept 1 2 st st₁ _ (λ h. omega (arith, h)) e) (long 1 st st₁ _ e)
+    (ap num e) (ap off e) (ap ers e)
     p
-    (kept 1 0 st₂ st₃ _ (λ h. omega (arith, h)) f) (off-off st₂ t₂ st₃ _ f) (kept 1 2 st₂ st₃ _ (λ h. omega (arith, h)) f) (long 1 st₂ st₃ _ f)
+    (ap num f) (ap off f) (ap ers f)
     (j ∙ ap (λ y. overlay d₁ y (rec_bytes 2 q.self)) i)
 
-pub own-one : (p : ℕ) (n : Node) (s : Tail) (a : List Rec) (e : List Err) (o w x : ℕ) (st st₁ st₂ st₃ d d₁ d₂ : List ℕ)
-    → length st ≡ 3 → w ≡ length (node_bytes 2 n)
-    → st₁ ≡ set st 1 (start_of o (off st) w)
+pub own-one : (p : ℕ) (n : Node) (s : Tail) (a : List Rec) (e : List Err) (o w x : ℕ) (st st₁ st₂ st₃ : State) (d d₁ d₂ : List ℕ)
+    → w ≡ length (node_bytes 2 n)
+    → st₁ ≡ with_off st (start_of o (off st) w)
     → Put a e st₁ st₂ d d₁
-    → x ≡ spot_of o (off st₂) → st₃ ≡ set st₂ 1 (next_of o (off st₂) w)
+    → x ≡ spot_of o (off st₂) → st₃ ≡ with_off st₂ (next_of o (off st₂) w)
     → d₂ ≡ overlay d₁ x (node_bytes 2 n)
     → Own (node p n a e s) o st st₃ d d₂
-own-one p n s a e o w x st st₁ st₂ st₃ d d₁ d₂ t g h k i f j = own-node (node p n a e s) o w x st st₁ st₂ st₃ d d₁ d₂ t g h k i f j
+own-one p n s a e o w x st st₁ st₂ st₃ d d₁ d₂ g h k i f j = own-node (node p n a e s) o w x st st₁ st₂ st₃ d d₁ d₂ g h k i f j
 
-pub own-two : (p : ℕ) (n : Node) (s : Tail) (a b : List Rec) (e f : List Err) (o w x : ℕ) (st st₁ st₂ st₃ st₄ d d₁ d₂ d₃ : List ℕ)
-    → length st ≡ 3 → w ≡ length (node_bytes 2 n)
-    → st₁ ≡ set st 1 (start_of o (off st) w)
+pub own-two : (p : ℕ) (n : Node) (s : Tail) (a b : List Rec) (e f : List Err) (o w x : ℕ) (st st₁ st₂ st₃ st₄ : State) (d d₁ d₂ d₃ : List ℕ)
+    → w ≡ length (node_bytes 2 n)
+    → st₁ ≡ with_off st (start_of o (off st) w)
     → Put a e st₁ st₂ d d₁ → Put b f st₂ st₃ d₁ d₂
-    → x ≡ spot_of o (off st₃) → st₄ ≡ set st₃ 1 (next_of o (off st₃) w)
+    → x ≡ spot_of o (off st₃) → st₄ ≡ with_off st₃ (next_of o (off st₃) w)
     → d₃ ≡ overlay d₂ x (node_bytes 2 n)
     → Own (node p n (a ++ b) (e ++ f) s) o st st₄ d d₃
-own-two p n s a b e f o w x st st₁ st₂ st₃ st₄ d d₁ d₂ d₃ t g h k l i m j =
-    own-node (node p n (a ++ b) (e ++ f) s) o w x st st₁ st₃ st₄ d d₂ d₃ t g h (put_then a b e f st₁ st₂ st₃ d d₁ d₂ k l) i m j
+own-two p n s a b e f o w x st st₁ st₂ st₃ st₄ d d₁ d₂ d₃ g h k l i m j =
+    own-node (node p n (a ++ b) (e ++ f) s) o w x st st₁ st₃ st₄ d d₂ d₃ g h (put_then a b e f st₁ st₂ st₃ d d₁ d₂ k l) i m j
 
-pub own-three : (p : ℕ) (n : Node) (s : Tail) (a b c : List Rec) (e f g : List Err) (o w x : ℕ) (st st₁ st₂ st₃ st₄ st₅ d d₁ d₂ d₃ d₄ : List ℕ)
-    → length st ≡ 3 → w ≡ length (node_bytes 2 n)
-    → st₁ ≡ set st 1 (start_of o (off st) w)
+pub own-three : (p : ℕ) (n : Node) (s : Tail) (a b c : List Rec) (e f g : List Err) (o w x : ℕ) (st st₁ st₂ st₃ st₄ st₅ : State) (d d₁ d₂ d₃ d₄ : List ℕ)
+    → w ≡ length (node_bytes 2 n)
+    → st₁ ≡ with_off st (start_of o (off st) w)
     → Put a e st₁ st₂ d d₁ → Put b f st₂ st₃ d₁ d₂ → Put c g st₃ st₄ d₂ d₃
-    → x ≡ spot_of o (off st₄) → st₅ ≡ set st₄ 1 (next_of o (off st₄) w)
+    → x ≡ spot_of o (off st₄) → st₅ ≡ with_off st₄ (next_of o (off st₄) w)
     → d₄ ≡ overlay d₃ x (node_bytes 2 n)
     → Own (node p n (a ++ (b ++ c)) (e ++ (f ++ g)) s) o st st₅ d d₄
-own-three p n s a b c e f g o w x st st₁ st₂ st₃ st₄ st₅ d d₁ d₂ d₃ d₄ t u h k l r i m j =
-    own-node (node p n (a ++ (b ++ c)) (e ++ (f ++ g)) s) o w x st st₁ st₄ st₅ d d₃ d₄ t u h
+own-three p n s a b c e f g o w x st st₁ st₂ st₃ st₄ st₅ d d₁ d₂ d₃ d₄ u h k l r i m j =
+    own-node (node p n (a ++ (b ++ c)) (e ++ (f ++ g)) s) o w x st st₁ st₄ st₅ d d₃ d₄ u h
     (put_then a (b ++ c) e (f ++ g) st₁ st₂ st₄ d d₁ d₃ k (put_then b c f g st₂ st₃ st₄ d₁ d₂ d₃ l r)) i m j
 
 -- a term without members
-pub own_alone : (p : ℕ) (n : Node) (o w x : ℕ) (st st₁ d d₁ : List ℕ)
-    → length st ≡ 3 → w ≡ length (node_bytes 2 n)
-    → x ≡ spot_of o (start_of o (off st) w) → st₁ ≡ set st 1 (next_of o (start_of o (off st) w) w)
+pub own_alone : (p : ℕ) (n : Node) (o w x : ℕ) (st st₁ : State) (d d₁ : List ℕ)
+    → w ≡ length (node_bytes 2 n)
+    → x ≡ spot_of o (start_of o (off st) w) → st₁ ≡ with_off st (next_of o (start_of o (off st) w) w)
     → d₁ ≡ overlay d x (node_bytes 2 n)
     → Own (leaf p n) o st st₁ d d₁
-own_alone p n o w x st st₁ d d₁ t g i f j =
-    let st₀ = set st 1 (start_of o (off st) w) in
-    let e : off st₀ ≡ start_of o (off st) w = off-off st t st₀ _ refl in
-    own-node (leaf p n) o w x st st₀ st₀ st₁ d d d₁ t g refl (put-none st₀ d)
-    (i ∙ ap (spot_of o) (sym e))
-    (f ∙ sym (set-set st 1 (start_of o (off st) w) _) ∙ ap (λ y. set st₀ 1 (next_of o y w)) (sym e))
-    j
+own_alone p n o w x st st₁ d d₁ g i f j =
+    let st₀ = with_off st (start_of o (off st) w) in
+    own-node (leaf p n) o w x st st₀ st₀ st₁ d d d₁ g refl (put-none st₀ d)
+    i f j
 
 -- errors that are put before a term
-pub own-after : (q : Out) (es : List Err) (o : ℕ) (st st₁ st₂ d d₁ d₂ : List ℕ)
+pub own-after : (q : Out) (es : List Err) (o : ℕ) (st st₁ st₂ : State) (d d₁ d₂ : List ℕ)
     → Put [] es st st₁ d d₁ → Own q o st₁ st₂ d₁ d₂
     → Own (record { self = q.self; more = q.more; errs = es ++ q.errs; tail = q.tail }) o st st₂ d d₂
 own-after q es o st st₁ st₂ d d₁ d₂ p a =
@@ -418,7 +382,6 @@ own-after q es o st st₁ st₂ d d₁ d₂ p a =
       nums = omega (arith, p.nums, a.nums);
       offs = a.offs ∙ ap (λ x. next_of o (x + length (table_bytes 2 q.more)) (length (rec_bytes 2 q.self))) start;
       errs = rw (errs-append es q.errs) (omega (arith, p.errs, a.errs, length-append (errs_bytes 2 es) (errs_bytes 2 q.errs)));
-      same = a.same ∙ p.same;
       size = a.size ∙ p.size;
       table = λ h.
           a.table (omega (arith, h, p.errs, p.size))
@@ -432,25 +395,24 @@ own-after q es o st st₁ st₂ d d₁ d₂ p a =
     start = ap (λ x. start_of o x (length (rec_bytes 2 q.self))) (p.offs ∙ omega arith)
 
 -- what fails: its error, then Id in its number
-pub own-fail : (p : ℕ) (x : Err) (o : ℕ) (st st₁ st₂ d d₁ d₂ : List ℕ)
+pub own-fail : (p : ℕ) (x : Err) (o : ℕ) (st st₁ st₂ : State) (d d₁ d₂ : List ℕ)
     → Put [] (x ∷ []) st st₁ d d₁ → Own (leaf p n_id) o st₁ st₂ d₁ d₂
     → Own (fail p x [] []) o st st₂ d d₂
 own-fail p x o st st₁ st₂ d d₁ d₂ e a = own-after (leaf p n_id) (x ∷ []) o st st₁ st₂ d d₁ d₂ e a
 
 -- ---- definitions, and the term behind them, whose own record has its room before them or behind all
 
-pub own-of-def : (a : Out) (ms : List Rec) (es : List Err) (o w : ℕ) (st st₁ st₂ st₃ d d₁ d₂ : List ℕ)
-    → length st ≡ 3 → (o ≤ off st) ⊎ (o ≡ late) → off st₂ < late
+pub own-of-def : (a : Out) (ms : List Rec) (es : List Err) (o w : ℕ) (st st₁ st₂ st₃ : State) (d d₁ d₂ : List ℕ)
+    → (o ≤ off st) ⊎ (o ≡ late) → off st₂ < late
     → w ≡ length (rec_bytes 2 a.self)
-    → st₁ ≡ set st 1 (start_of o (off st) w)
+    → st₁ ≡ with_off st (start_of o (off st) w)
     → Put ms es st₁ st₂ d d₁ → Own a o st₂ st₃ d₁ d₂
     → Own (record { self = a.self; more = ms ++ a.more; errs = es ++ a.errs; tail = a.tail }) o st st₃ d d₂
-own-of-def a ms es o w st st₁ st₂ st₃ d d₁ d₂ t at l g e p q =
+own-of-def a ms es o w st st₁ st₂ st₃ d d₁ d₂ at l g e p q =
     record {
       nums = omega (arith, p.nums, q.nums, n₁, length-append ms a.more);
       offs = q.offs ∙ ap (λ x. next_of o x (length (rec_bytes 2 a.self))) end;
       errs = rw (errs-append es a.errs) (omega (arith, p.errs, q.errs, e₁, length-append (errs_bytes 2 es) (errs_bytes 2 a.errs)));
-      same = q.same ∙ p.same ∙ long 1 st st₁ _ e;
       size = q.size ∙ p.size;
       table = λ h.
           q.table (omega (arith, h, p.errs, e₁, p.size))
@@ -464,13 +426,13 @@ own-of-def a ms es o w st st₁ st₂ st₃ d d₁ d₂ t at l g e p q =
     }
   where
     n₁ : num st₁ ≡ num st
-    n₁ = kept 1 0 st st₁ _ (λ h. omega (arith, h)) e
+    n₁ = ap num e
 
     o₁ : off st₁ ≡ start_of o (off st) w
-    o₁ = off-off st t st₁ _ e
+    o₁ = ap off e
 
     e₁ : ers st₁ ≡ ers st
-    e₁ = kept 1 2 st st₁ _ (λ h. omega (arith, h)) e
+    e₁ = ap ers e
 
     -- no member of the term itself stands where its own record does
     apart : (o ≤ off st) ⊎ (o ≡ late) → o ≡ off st₂ → ⊥

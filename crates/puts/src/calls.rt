@@ -2,53 +2,23 @@
 ghost use Rattle.std.specs.Prelude.{◌≡◌, ◌⊎◌, ℕ, ◌≤◌, ◌<◌};
 ghost use Rattle.std.specs.Int.Count.{ones};
 ghost use Rattle.rules.specs.Table.{kind_number};
+ghost use Rattle.puts.specs.Calls.{call_number};
 ghost use Rattle.rules.specs.Tails.{bit, parent, sibling, local_call, module_kind};
 
 // "The four call kinds keep fixed numbers"
-#[derive(Clone, Copy)]
-pub struct CallType {
-    pub number: u8,
+#[derive(Clone, Copy, PartialEq, Eq)]
+pub enum CallType {
+    Inline = 0,
+    Throw = 1,
+    CatchOne = 2,
+    CatchAll = 3,
 }
 
 impl CallType {
-    pub const INLINE: u8 = 0;
-
-    pub const THROW: u8 = 1;
-
-    pub const CATCH_ONE: u8 = 2;
-
-    pub const CATCH_ALL: u8 = 3;
-
-    pub fn new_inline() -> CallType
-        ensures { result.number ≡ 0 }
+    pub fn number(self) -> u8
+        ensures { result ≡ call_number self }
     {
-        CallType {
-            number: CallType::INLINE,
-        }
-    }
-
-    pub fn new_throw() -> CallType
-        ensures { result.number ≡ 1 }
-    {
-        CallType {
-            number: CallType::THROW,
-        }
-    }
-
-    pub fn new_catch_one() -> CallType
-        ensures { result.number ≡ 2 }
-    {
-        CallType {
-            number: CallType::CATCH_ONE,
-        }
-    }
-
-    pub fn new_catch_all() -> CallType
-        ensures { result.number ≡ 3 }
-    {
-        CallType {
-            number: CallType::CATCH_ALL,
-        }
+        self as u8
     }
 }
 
@@ -68,50 +38,43 @@ pub fn bit(l: u64) -> u64
     0
 }
 
-// How many definitions a set holds.
-fn size(s: u64) -> u32
-    ensures { result ≡ ones s }
-{
-    u64::count_ones(s)
-}
-
 // "Parent: Throw if allowed, returning itself, else CatchAll returning nothing."
 pub fn parent(l: u64, allowed: u64) -> Jump
-    ensures { (result.call.number ≡ kind_number (local_call l parent allowed).kind) × (result.tail ≡ (local_call l parent allowed).tail) }
+    ensures { (call_number result.call ≡ kind_number (local_call l parent allowed).kind) × (result.tail ≡ (local_call l parent allowed).tail) }
 {
     let own = bit(l);
     if allowed & own == 0 {
         return Jump {
-            call: CallType::new_catch_all(),
+            call: CallType::CatchAll,
             tail: 0,
         };
     }
     Jump {
-        call: CallType::new_throw(),
+        call: CallType::Throw,
         tail: own,
     }
 }
 
 // "Sibling: its set less itself; if allowed, CatchOne when it held itself, else Inline, returning that set; otherwise CatchAll, returning nothing."
 pub fn sibling(l: u64, set: u64, allowed: u64) -> Jump
-    ensures { (result.call.number ≡ kind_number (local_call l (sibling set) allowed).kind) × (result.tail ≡ (local_call l (sibling set) allowed).tail) }
+    ensures { (call_number result.call ≡ kind_number (local_call l (sibling set) allowed).kind) × (result.tail ≡ (local_call l (sibling set) allowed).tail) }
 {
     let own = set & bit(l);
     let rest = set - own;
     if rest & allowed == rest {
         if own == 0 {
             return Jump {
-                call: CallType::new_inline(),
+                call: CallType::Inline,
                 tail: rest,
             };
         }
         return Jump {
-            call: CallType::new_catch_one(),
+            call: CallType::CatchOne,
             tail: rest,
         };
     }
     Jump {
-        call: CallType::new_catch_all(),
+        call: CallType::CatchAll,
         tail: 0,
     }
 }
@@ -119,16 +82,16 @@ pub fn sibling(l: u64, set: u64, allowed: u64) -> Jump
 // "Module calls return nothing: CatchOne if self-returning, else Inline." The set of a module's definition holds at most one, which is itself.
 pub fn outer(set: u64) -> Jump
     requires { ones set ≤ 1 }
-    ensures { ((l : ℕ) → (set ≡ 0) ⊎ (set ≡ bit l) → l < 64 → result.call.number ≡ kind_number (module_kind l (sibling set))) × (result.tail ≡ 0) }
+    ensures { ((l : ℕ) → (set ≡ 0) ⊎ (set ≡ bit l) → l < 64 → call_number result.call ≡ kind_number (module_kind l (sibling set))) × (result.tail ≡ 0) }
 {
-    if size(set) == 0 {
+    if set == 0 {
         return Jump {
-            call: CallType::new_inline(),
+            call: CallType::Inline,
             tail: 0,
         };
     }
     Jump {
-        call: CallType::new_catch_one(),
+        call: CallType::CatchOne,
         tail: 0,
     }
 }

@@ -1,9 +1,10 @@
 // Records: each is put as far as there is room. Over an empty room nothing is written.
-ghost use Rattle.std.specs.Prelude.{◌≡◌, [], ◌∷◌, ◌++◌, ◌+◌, ◌<◌, ◌^◌, length, set};
+ghost use Rattle.std.specs.Prelude.{◌≡◌, [], ◌∷◌, ◌++◌, ◌+◌, ◌*◌, ◌/◌, ◌%◌, ◌<◌, ◌^◌, length, set};
 ghost use Rattle.fields.specs.Number.{number};
 ghost use Rattle.fields.specs.Field.{field};
 ghost use Rattle.fields.specs.Room.{overlay};
 ghost use Rattle.text.specs.Utf8.{utf8};
+ghost use Rattle.puts.specs.Pairs.{pairs};
 
 pub fn put1(out: &mut [u8], o: usize, b: u8)
     ensures { out.new ≡ set out.old o b }
@@ -13,25 +14,71 @@ pub fn put1(out: &mut [u8], o: usize, b: u8)
     }
 }
 
+// The lower byte of a number.
+fn low(a: usize) -> u8
+    ensures { result ≡ a % 256 }
+{
+    (a % 256) as u8
+}
+
+// The byte above it.
+fn high(a: usize) -> u8
+    ensures { result ≡ a / 256 % 256 }
+{
+    (a / 256 % 256) as u8
+}
+
+// Bytes: each is stored at once where there is room for all.
+#[inline(always)]
+fn put_bytes<const N: usize>(out: &mut [u8], o: usize, bytes: [u8; N])
+    requires { o + N < 2 ^ 64 }
+    ensures { out.new ≡ overlay out.old o bytes.entry }
+{
+    if out.len() < o + N {
+        fields::put(out, o, &bytes);
+        return;
+    }
+    for i in 0..N {
+        out[o + i] = bytes[i];
+    }
+}
+
 pub fn put_number(out: &mut [u8], o: usize, a: usize)
     requires { o + 2 < 2 ^ 64 }
     ensures { out.new ≡ overlay out.old o (number 2 a) }
 {
-    if o + 2 <= out.len() {
-        out[o] = (a % 256) as u8;
-        out[o + 1] = (a / 256 % 256) as u8;
-    } else {
-        put1(out, o, (a % 256) as u8);
+    put_bytes(out, o, [low(a), high(a)]);
+}
+
+// A record of numbers. Where there is room for all of it each byte is stored at once.
+#[inline(always)]
+fn put_numbers<const N: usize>(out: &mut [u8], o: usize, tag: u8, numbers: [usize; N])
+    requires { (o + 3 + 2 * N < 2 ^ 64) × (2 * N < 65536) }
+    ensures { out.new ≡ overlay out.old o (field tag (pairs numbers.entry)) }
+{
+    if out.len() < o + 3 + 2 * N {
+        put_cut(out, o, tag, numbers);
+        return;
+    }
+    out[o] = tag;
+    out[o + 1] = low(2 * N);
+    out[o + 2] = high(2 * N);
+    for i in 0..N {
+        out[o + 3 + 2 * i] = low(numbers[i]);
+        out[o + 4 + 2 * i] = high(numbers[i]);
     }
 }
 
-fn put3(out: &mut [u8], o: usize, a: u8, b: u8, c: u8)
-    requires { o + 3 < 2 ^ 64 }
-    ensures { out.new ≡ overlay out.old o (a ∷ b ∷ c ∷ []) }
+// The same, as far as there is room.
+fn put_cut<const N: usize>(out: &mut [u8], o: usize, tag: u8, numbers: [usize; N])
+    requires { (o + 3 + 2 * N < 2 ^ 64) × (2 * N < 65536) }
+    ensures { out.new ≡ overlay out.old o (field tag (pairs numbers.entry)) }
 {
-    put1(out, o, a);
-    put1(out, o + 1, b);
-    put1(out, o + 2, c);
+    put1(out, o, tag);
+    put_number(out, o + 1, 2 * N);
+    for i in 0..N {
+        put_number(out, o + 3 + 2 * i, numbers[i]);
+    }
 }
 
 // A record without members.
@@ -39,13 +86,7 @@ pub fn put_bare(out: &mut [u8], o: usize, tag: u8)
     requires { o + 3 < 2 ^ 64 }
     ensures { out.new ≡ overlay out.old o (field tag []) }
 {
-    if o + 3 <= out.len() {
-        out[o] = tag;
-        out[o + 1] = 0;
-        out[o + 2] = 0;
-        return;
-    }
-    put3(out, o, tag, 0, 0);
+    put_numbers(out, o, tag, []);
 }
 
 // A record of one number.
@@ -53,18 +94,7 @@ pub fn put_one(out: &mut [u8], o: usize, tag: u8, a: usize)
     requires { o + 5 < 2 ^ 64 }
     ensures { out.new ≡ overlay out.old o (field tag (number 2 a)) }
 {
-    if o + 5 <= out.len() {
-        out[o] = tag;
-        out[o + 1] = 2;
-        out[o + 2] = 0;
-        out[o + 3] = (a % 256) as u8;
-        out[o + 4] = (a / 256 % 256) as u8;
-        return;
-    }
-    if o < out.len() {
-        put3(out, o, tag, 2, 0);
-        put_number(out, o + 3, a);
-    }
+    put_numbers(out, o, tag, [a]);
 }
 
 // A record of two numbers.
@@ -72,21 +102,7 @@ pub fn put_two(out: &mut [u8], o: usize, tag: u8, a: usize, b: usize)
     requires { o + 7 < 2 ^ 64 }
     ensures { out.new ≡ overlay out.old o (field tag (number 2 a ++ number 2 b)) }
 {
-    if o + 7 <= out.len() {
-        out[o] = tag;
-        out[o + 1] = 4;
-        out[o + 2] = 0;
-        out[o + 3] = (a % 256) as u8;
-        out[o + 4] = (a / 256 % 256) as u8;
-        out[o + 5] = (b % 256) as u8;
-        out[o + 6] = (b / 256 % 256) as u8;
-        return;
-    }
-    if o < out.len() {
-        put3(out, o, tag, 4, 0);
-        put_number(out, o + 3, a);
-        put_number(out, o + 5, b);
-    }
+    put_numbers(out, o, tag, [a, b]);
 }
 
 // A record of two numbers and a byte between them.
@@ -94,23 +110,7 @@ pub fn put_mid(out: &mut [u8], o: usize, tag: u8, a: usize, x: u8, b: usize)
     requires { o + 8 < 2 ^ 64 }
     ensures { out.new ≡ overlay out.old o (field tag (number 2 a ++ (x ∷ number 2 b))) }
 {
-    if o + 8 <= out.len() {
-        out[o] = tag;
-        out[o + 1] = 5;
-        out[o + 2] = 0;
-        out[o + 3] = (a % 256) as u8;
-        out[o + 4] = (a / 256 % 256) as u8;
-        out[o + 5] = x;
-        out[o + 6] = (b % 256) as u8;
-        out[o + 7] = (b / 256 % 256) as u8;
-        return;
-    }
-    if o < out.len() {
-        put3(out, o, tag, 5, 0);
-        put_number(out, o + 3, a);
-        put1(out, o + 5, x);
-        put_number(out, o + 6, b);
-    }
+    put_bytes(out, o, [tag, 5, 0, low(a), high(a), x, low(b), high(b)]);
 }
 
 // A record of three numbers.
@@ -118,9 +118,7 @@ pub fn put_three(out: &mut [u8], o: usize, tag: u8, a: usize, b: usize, c: usize
     requires { o + 9 < 2 ^ 64 }
     ensures { out.new ≡ overlay out.old o (field tag (number 2 a ++ (number 2 b ++ number 2 c))) }
 {
-    put_head(out, o, tag, 6, a);
-    put_number(out, o + 5, b);
-    put_number(out, o + 7, c);
+    put_numbers(out, o, tag, [a, b, c]);
 }
 
 // The tag, the length and the first number of a record.
@@ -128,19 +126,7 @@ pub fn put_head(out: &mut [u8], o: usize, tag: u8, len: usize, a: usize)
     requires { o + 5 < 2 ^ 64 }
     ensures { out.new ≡ overlay out.old o (tag ∷ (number 2 len ++ number 2 a)) }
 {
-    if o + 5 <= out.len() {
-        out[o] = tag;
-        out[o + 1] = (len % 256) as u8;
-        out[o + 2] = (len / 256 % 256) as u8;
-        out[o + 3] = (a % 256) as u8;
-        out[o + 4] = (a / 256 % 256) as u8;
-        return;
-    }
-    if o < out.len() {
-        put1(out, o, tag);
-        put_number(out, o + 1, len);
-        put_number(out, o + 3, a);
-    }
+    put_bytes(out, o, [tag, low(len), high(len), low(a), high(a)]);
 }
 
 // A record of an integer, in eight bytes.
@@ -148,12 +134,8 @@ pub fn put_int(out: &mut [u8], o: usize, x: u64)
     requires { o + 11 < 2 ^ 64 }
     ensures { out.new ≡ overlay out.old o (field 0x53 (number 8 x)) }
 {
-    let l = (x % 4294967296) as usize;
-    let h = (x / 4294967296) as usize;
-    put_head(out, o, 0x53, 8, l % 65536);
-    put_number(out, o + 5, l / 65536);
-    put_number(out, o + 7, h % 65536);
-    put_number(out, o + 9, h / 65536);
+    put_bytes(out, o, [0x53, 8, 0]);
+    put_bytes(out, o + 3, x.to_le_bytes());
 }
 
 // A record of a text.
@@ -174,10 +156,8 @@ pub fn put_char(out: &mut [u8], o: usize, c: u32)
     let l = text::utf8_len(c);
     put1(out, o, 0x55);
     put_number(out, o + 1, l);
-    let mut i = 0;
-    while i < l {
+    for i in 0..l {
         put1(out, o + 3 + i, text::utf8_byte(c, i));
-        i += 1;
     }
 }
 
@@ -186,9 +166,7 @@ pub fn put_error(errs: &mut [u8], e: usize, tag: u8, home: usize, at: usize, len
     requires { e + 9 < 2 ^ 64 }
     ensures { errs.new ≡ overlay errs.old e (field tag (number 2 home ++ (number 2 at ++ number 2 len))) }
 {
-    put_head(errs, e, tag, 6, home);
-    put_number(errs, e + 5, at);
-    put_number(errs, e + 7, len);
+    put_numbers(errs, e, tag, [home, at, len]);
 }
 
 // A Filter error: also the arity.
@@ -196,8 +174,5 @@ pub fn put_filter_error(errs: &mut [u8], e: usize, home: usize, at: usize, len: 
     requires { e + 11 < 2 ^ 64 }
     ensures { errs.new ≡ overlay errs.old e (field 0x2B (number 2 home ++ (number 2 at ++ number 2 len) ++ number 2 a)) }
 {
-    put_head(errs, e, 0x2B, 8, home);
-    put_number(errs, e + 5, at);
-    put_number(errs, e + 7, len);
-    put_number(errs, e + 9, a);
+    put_numbers(errs, e, 0x2B, [home, at, len, a]);
 }

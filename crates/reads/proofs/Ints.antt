@@ -38,11 +38,10 @@ decimal-ge (d ∷ ds) k = omega (arith, decimal-ge ds (10 * k + (d - 0x30)))
 pub record Reading (x : List ℕ) (v i : ℕ) : Type 0 where
   pub digits : are_digits x ≡ are_digits (drop i x)
   pub value : decimal 0 x ≡ decimal v (drop i x)
-  pub small : v < 2 ^ 63
   pub within : i ≤ length x
 
 pub int-start : (x : List ℕ) → Reading x 0 0
-int-start x = record { digits = refl; value = refl; small = omega arith; within = omega arith }
+int-start x = record { digits = refl; value = refl; within = omega arith }
 
 module _ (x : List ℕ) (v i : ℕ) (g : Reading x v i) (l : i < length x) where
   pub int-below : get_or x i 0 < 48 → 2 ^ 63 ≡ int_of x
@@ -57,22 +56,24 @@ module _ (x : List ℕ) (v i : ℕ) (g : Reading x v i) (l : i < length x) where
   pub int-over : 2 ^ 63 ≤ 10 * v + (get_or x i 0 - 48) → 2 ^ 63 ≡ int_of x
   int-over h = int-big x (omega (arith, next-value, decimal-ge (drop (suc i) x) (10 * v + (get_or x i 0 - 48))))
 
-  pub int-next : (w : ℕ) → 48 ≤ get_or x i 0 → get_or x i 0 ≤ 57 → w ≡ v * 10 + (get_or x i 0 - 48) → w < 2 ^ 63 → Reading x w (i + 1)
-  int-next w h k e s = record {
+  pub int-next : (w : ℕ) → 48 ≤ get_or x i 0 → get_or x i 0 ≤ 57 → w ≡ v * 10 + (get_or x i 0 - 48) → Reading x w (i + 1)
+  int-next w h k e = record {
     digits = rw (add-one i) (g.digits ∙ ap are_digits (drop-cons x i 0 l) ∙ rw (le-leb 0x30 (get_or x i 0) h, le-leb (get_or x i 0) 0x39 k));
     value = rw (add-one i) (next-value ∙ ap (λ (n : ℕ). decimal n (drop (suc i) x)) (omega (arith, e)));
-    small = s;
     within = omega arith;
   }
 
-pub int-done : (x : List ℕ) (v i : ℕ) → Reading x v i → length x ≤ i → (length x ≡ 0 → ⊥) → v ≡ int_of x
+pub int-high : (x : List ℕ) (v i : ℕ) → Reading x v i → 2 ^ 63 ≤ v → 2 ^ 63 ≡ int_of x
+int-high x v i g h = int-big x (omega (arith, g.value, h, decimal-ge (drop i x) v))
+
+pub int-done : (x : List ℕ) (v i : ℕ) → Reading x v i → length x ≤ i → (length x ≡ 0 → ⊥) → v < 2 ^ 63 → v ≡ int_of x
 unfolding int_of
-int-done x v i g l n =
+int-done x v i g l n h =
     let e : drop i x ≡ [] = drop_of_length-le x l in
     let d : decimal 0 x ≡ v = g.value ∙ ap (decimal v) e in
     let a : are_digits x ≡ true = g.digits ∙ ap are_digits e in
     let p : 1 ≤ length x = pos (length x) n in
-    rw (le-leb 1 (length x) p, a, d, lt-ltb v (2 ^ 63) g.small)
+    rw (le-leb 1 (length x) p, a, d, lt-ltb v (2 ^ 63) h)
   where
     pos : (m : ℕ) → (m ≡ 0 → ⊥) → 1 ≤ m
     pos zero n = absurd (n refl)

@@ -17,6 +17,9 @@ use Rattle.reads.specs.Widths.{OwnWidth, int_of, num_width, pat_width, op_width,
 use Rattle.reads.specs.Shapes.{StrAt, FoldAt, on-path, on-str, on-fold, on-pipe, on-binop, operator-at, on-some-pattern, on-no-pattern, tag-yes, tag-no, terms-many}
 use Rattle.reads.specs.Parts.{on-format, on-no-format, term_fits, pattern-fits}
 use Rattle.reads.specs.Lengths.{own-path, own-str, own-pipe, own-binop}
+use Rattle.std.specs.Prelude.{Option}
+use Rattle.reads.specs.Kinds.{fold_number}
+use Rattle.reads.specs.declared.width.FoldKind.{FoldKind}
 use Rattle.reads.specs.Folds.{FoldOf}
 use Rattle.reads.proofs.Partings.{row_next}
 use Rattle.reads.proofs.Operators.{kind-other}
@@ -233,30 +236,24 @@ module _ (b : List ℕ) (p : ℕ) (e : get_or b p 0 ≡ 0xAC) (x q i z : ℕ) (e
     room : (t : Term) → TermAt b t p → i + 3 * n ≤ end_of b p
     room t h = let s = fold-places t h in omega (arith, ez, (f s.args.0 s.args.1).1)
 
-    pub fold-few : n < 2 → (t : Term) → TermAt b t p → FoldOf b p (record { x = x; q = q; i = i; u = i; a = n; kind = 3; w = 3 })
-    fold-few l t h = record {
-      source = ex;
-      pat = eq;
-      init = ei;
-      kind = kind-other (text_of b (p + 3)) n (λ g. omega (arith, g, l)) (λ g. omega (arith, g, l));
-      is = λ u y ts a. (count u y ts a, fold-no 3 refl (pat_width y));
-      some = λ g. absurd (omega (arith, g, l));
-      none = λ g. refl;
-      room = omega arith;
-      few = room t h;
-    }
-
-    pub fold-many : (k v w : ℕ) → 2 ≤ n → k ≡ fold_kind (text_of b (p + 3)) n → v ≡ end_of b i
-        → ((y : Pattern) → PatternAt b y q → w ≡ fold_width k (pat_width y)) → w + 2 * q ≤ 2 * end_of b q + 10
+    pub fold-is : (k : Option FoldKind) (v w : ℕ) → fold_number k ≡ fold_kind (text_of b (p + 3)) n → (2 ≤ n → v ≡ end_of b i) → (n < 2 → v ≡ i)
+        → ((y : Pattern) → PatternAt b y q → w ≡ fold_width (fold_number k) (pat_width y)) → w + 2 * q ≤ 2 * end_of b q + 10 → (n < 2) ⊎ (2 ≤ n)
         → (t : Term) → TermAt b t p → FoldOf b p (record { x = x; q = q; i = i; u = v; a = n; kind = k; w = w })
-    fold-many k v w l ek ev g j t h = record {
+    fold-is k v w ek ev ew g j c t h = record {
       source = ex;
       pat = eq;
       init = ei;
       kind = ek;
       is = λ u y ts a. (count u y ts a, g y (fold-pattern u y ts a));
-      some = λ m. ev;
-      none = λ m. absurd (omega (arith, m, l));
-      room = omega (arith, j, ei, l, room t h, (fold-places t h).low);
+      some = ev;
+      none = ew;
+      room = fits c;
       few = room t h;
     }
+      where
+        fits : (n < 2) ⊎ (2 ≤ n) → w + 2 * p ≤ 2 * end_of b p
+        fits (inl l) =
+            let o = kind-other (text_of b (p + 3)) n (λ m. omega (arith, m, l)) (λ m. omega (arith, m, l)) in
+            let y = (fold-places t h).pattern in
+            omega (arith, g y.0 y.1, fold-no (fold_number k) (ek ∙ sym o) (pat_width y.0))
+        fits (inr l) = omega (arith, j, ei, l, room t h, (fold-places t h).low)

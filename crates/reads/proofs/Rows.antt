@@ -1,7 +1,7 @@
 -- Fields one after the other, as the code passes them: how many there are, and parameters or definitions that a term follows. Assumes nothing.
 use mathlib.Core.Path.{◌≡◌, refl, sym, ap, subst, ◌∙◌}
 use mathlib.Core.List.{List, [], ◌∷◌}
-use Prim.Native.Nat.{ℕ, suc, ◌+◌, ◌*◌, ◌≤◌, ◌<◌}
+use Prim.Native.Nat.{ℕ, suc, ◌+◌, ◌-◌, ◌*◌, ◌≤◌, ◌<◌}
 use native.Mathlib.Omega.{arith}
 use lib.ListN.{length, get_or}
 use Rattle.tree.specs.Rose.{Rose, Roses, rnil, rcons, end_of, tag_of, At, Row, tagged, row-le}
@@ -10,6 +10,10 @@ use Rattle.tree.specs.Tree.{t_id, t_recurse, t_arr, t_neg, t_label, t_break, t_i
 use Rattle.tree.specs.Form.{f_name, f_names, f_term, f_defs, f_def}
 use Rattle.tree.proofs.Form.{term-place}
 use Rattle.reads.specs.Bytes.{many, after, TermAt}
+use Rattle.reads.specs.Places.{Stand, GivesField, turned, row-over}
+use Rattle.std.specs.Iterator.{Drains}
+use Rattle.std.specs.Prelude.{None}
+use Rattle.reads.specs.declared.bytes.Places.{Places}
 
 -- ---- how many
 
@@ -24,36 +28,30 @@ unfolding At many
 row-none b rnil p z h l = refl
 row-none b (rcons r rs) p z h l = absurd (omega (arith, row-le b rs (end_of b p) z h.2))
 
--- i fields passed from q on: p is reached
-pub record Counting (b : List ℕ) (q z i p : ℕ) : Type 0 where
-  pub goes : (rs : Roses) → Row b rs q z → (rest : Roses) × Row b rest p z × (many rs ≡ i + many rest)
-  pub few : q + 3 * i ≤ p
+-- what stands where an iterator goes next, and behind it
+pub stand-fits : (s : Places) → Stand s → s.at < s.end → end_of s.tree.now s.at ≤ s.end
+stand-fits s h l =
+    let k = row_step s.tree.now h.1.0 s.at s.end h.1.1 l in
+    row-le s.tree.now k.0 (end_of s.tree.now s.at) s.end k.1
 
-module _ (b : List ℕ) (q z : ℕ) where
-  pub count-start : Counting b q z 0 q
-  count-start = record { goes = λ rs h. (rs, h, omega arith); few = omega arith }
+pub stand-next : (s : Places) (r : ℕ) → Stand s → s.at < s.end → r ≡ end_of s.tree.now s.at
+    → Stand (record { tree = s.tree; at = r; end = s.end }) × (s.end - r < s.end - s.at)
+stand-next s r h l e =
+    let k = row_step s.tree.now h.1.0 s.at s.end h.1.1 l in
+    ((h.0, (k.0, subst (λ (n : ℕ). Row s.tree.now k.0 n s.end) (sym e) k.1)), omega (arith, e, l))
 
-  pub count_fits : (i p : ℕ) → Counting b q z i p → (rs : Roses) × Row b rs q z → p < z → end_of b p ≤ z
-  count_fits i p g s l =
-      let h = g.goes s.0 s.1 in
-      let k = row_step b h.0 p z h.1 l in
-      row-le b k.0 (end_of b p) z k.1
-
-  pub count-more : (i p r : ℕ) → Counting b q z i p → p < z → r ≡ end_of b p → Counting b q z (i + 1) r
-  count-more i p r g l e = record {
-    goes = λ rs h.
-        let s = g.goes rs h in
-        let k = row_step b s.0 p z s.1 l in
-        (k.0, subst (λ (n : ℕ). Row b k.0 n z) (sym e) k.1, omega (arith, s.2, k.2));
-    few = omega (arith, g.few);
-  }
-
-  pub count-done : (i p : ℕ) → Counting b q z i p → z ≤ p → (rs : Roses) → Row b rs q z → (i ≡ many rs) × (q + 3 * i ≤ z)
-  count-done i p g l rs h =
-      let s = g.goes rs h in
-      let k = row-none b s.0 p z s.1 l in
-      let j = row-le b s.0 p z s.1 in
-      (omega (arith, s.2, k), omega (arith, g.few, j))
+-- an iterator gives as many places as fields stand, each of three bytes or more
+pub gives_all : (s : Places) (xs : List ℕ) → Drains GivesField s xs → (rs : Roses) → Row s.tree.now rs s.at s.end → (length xs ≡ many rs) × (s.at + 3 * length xs ≤ s.end)
+gives_all s [] d rs h =
+    let l : s.end ≤ s.at = turned s d.0 (refl, refl) (subst (λ (u : Places). GivesField u None d.0) (sym d.1.1) d.1.2) in
+    (sym (row-none s.tree.now rs s.at s.end h l), omega (arith, row-le s.tree.now rs s.at s.end h))
+gives_all s (p ∷ xs) d rs h =
+    let t = d.1.1.0 in
+    let g = d.1.1.1 in
+    let k = row_step s.tree.now rs s.at s.end h (omega (arith, g.2.0, g.2.1)) in
+    let e = subst (λ (n : ℕ). t.at ≡ end_of s.tree.now n) g.2.0 g.2.2 in
+    let i = gives_all t xs (d.0, (d.1.0, d.1.1.2, d.1.2)) k.0 (row-over s.tree.now s.end (end_of s.tree.now s.at) t k.0 (g.0, g.1) e k.1) in
+    (omega (arith, i.0, k.2), omega (arith, i.1, g.1, e))
 
 -- ---- tags
 

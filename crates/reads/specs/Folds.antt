@@ -7,6 +7,7 @@ use Rattle.tree.specs.Tree.{Term, Terms, Pattern}
 use Rattle.rules.specs.Names.{Text, ascii, same}
 use Rattle.rules.specs.Outs.{arity}
 use Rattle.reads.specs.declared.width.Fold.{Fold}
+use Rattle.reads.specs.Kinds.{fold_number}
 use Rattle.reads.specs.Shapes.{FoldAt}
 use Rattle.reads.specs.Widths.{pat_width, fold_kind, fold_width}
 
@@ -16,8 +17,8 @@ pub record FoldOf (b : List ℕ) (p : ℕ) (r : Fold) : Type 0 where
   pub source : r.x ≡ end_of b (p + 3)
   pub pat : r.q ≡ end_of b r.x
   pub init : r.i ≡ end_of b r.q
-  pub kind : r.kind ≡ fold_kind (text_of b (p + 3)) r.a
-  pub is : (u : Term) (x : Pattern) (ts : Terms) → FoldAt b p u x ts → (r.a ≡ arity ts) × (r.w ≡ fold_width r.kind (pat_width x))
+  pub kind : fold_number r.kind ≡ fold_kind (text_of b (p + 3)) r.a
+  pub is : (u : Term) (x : Pattern) (ts : Terms) → FoldAt b p u x ts → (r.a ≡ arity ts) × (r.w ≡ fold_width (fold_number r.kind) (pat_width x))
   pub some : 2 ≤ r.a → r.u ≡ end_of b r.i
   pub none : r.a < 2 → r.u ≡ r.i
   pub room : r.w + 2 * p ≤ 2 * end_of b p

@@ -7,3 +7,5 @@ pub mod Folds
 pub mod Subs
 pub mod Texts
 pub mod Bounds
+pub mod Places
+pub mod Kinds

@@ -1,7 +1,7 @@
 -- The patterns in an array or object pattern, as the code passes them: one after the other, each behind its key if it has one. Assumes nothing.
 use Rattle.std.specs.Prelude.{ℕ, ◌+◌, ◌≤◌, ◌<◌, ◌≡◌, refl, List, [], ◌∷◌, length, get_or}
 use Rattle.std.proofs.Common.{arith, sym, subst}
-use Rattle.tree.specs.Rose.{node, rnil, rcons, end_of, Row}
+use Rattle.tree.specs.Rose.{Roses, node, rnil, rcons, end_of, Row}
 use Rattle.tree.specs.Tree.{Pattern, p_var, p_arr, p_obj, Patterns, ps_nil, ps_cons, PatEntries, pes_nil, pes_cons}
 use Rattle.tree.specs.Form.{f_term, f_pattern, f_patterns, f_pat_entries}
 use Rattle.reads.specs.Bytes.{PatternAt, sub_pattern}
@@ -79,6 +79,13 @@ object-subs b (pes_cons q t x xs) p z h =
       ),
       omega (arith, r.1),
     )
+
+-- fields stand in the pattern at q, which is no variable
+pub pattern-members : (b : List ℕ) (q : ℕ) → (get_or b q 0 ≡ 0x98 → ⊥) → (x : Pattern) → PatternAt b x q → (rs : Roses) × Row b rs (q + 3) (end_of b q)
+unfolding f_pattern
+pattern-members b q n (p_var p x) h = absurd (n (pattern-tagged b (p_var p x) q h))
+pattern-members b q n (p_arr p xs) h = (f_patterns xs rnil, row-node b 0x99 p q (end_of b q) (f_patterns xs rnil) rnil (pattern-row b (p_arr p xs) q h))
+pattern-members b q n (p_obj p xs) h = (f_pat_entries xs rnil, row-node b 0x9A p q (end_of b q) (f_pat_entries xs rnil) rnil (pattern-row b (p_obj p xs) q h))
 
 -- the members of the pattern at q, which is no variable, and its width by theirs
 pub subs-of : (b : List ℕ) (q : ℕ) → (get_or b q 0 ≡ 0x98 → ⊥) → (x : Pattern) → PatternAt b x q

@@ -1,18 +1,34 @@
 // Tree bytes: where a field ends, how many fields follow each other, texts and how they compare. A place is the offset of a field's tag byte.
 // Every reader asks that the field lies within the bytes: `end_of b p ≤ length b`.
-ghost use Rattle.std.specs.Prelude.{◌≡◌, List, ℕ, ◌+◌, ◌*◌, ◌≤◌, ◌<◌, length, take, drop};
+ghost use Rattle.std.specs.Prelude.{◌≡◌, List, ℕ, ◌+◌, ◌*◌, ◌≤◌, ◌<◌, length, take, drop, SomeIff};
 ghost use Rattle.tree.specs.Rose.{Roses, rnil, rcons, end_of, text_of, Row};
 ghost use Rattle.tree.specs.Tree.{Name, Term, Defs};
 ghost use Rattle.tree.specs.Form.{f_term, f_names, f_defs};
 ghost use Rattle.rules.specs.Names.{same, is_var};
 ghost use Rattle.reads.specs.Bytes.{len_of, pair_at, four_of, many, after, TermAt, is_tag, past, sub_pattern, word_of, colons_at, colons_of};
 
+// The number that two bytes from p on hold.
+fn pair(b: &[u8], p: usize) -> usize
+    requires { p + 2 ≤ length b.now }
+    ensures { (result ≡ pair_at b.now p) × (result < 65536) }
+{
+    usize::from(u16::from_le_bytes([b[p], b[p + 1]]))
+}
+
+// The number that four bytes from p on hold.
+fn four(b: &[u8], p: usize) -> u32
+    requires { p + 4 ≤ length b.now }
+    ensures { result ≡ four_of b.now p }
+{
+    u32::from_le_bytes([b[p], b[p + 1], b[p + 2], b[p + 3]])
+}
+
 // The length of the content of the field at p.
 pub fn len_of(b: &[u8], p: usize) -> usize
     requires { end_of b.now p ≤ length b.now }
     ensures { result ≡ len_of b.now p }
 {
-    (b[p + 1] as usize) + (b[p + 2] as usize) * 256
+    pair(b, p + 1)
 }
 
 // The place after the field at p.
@@ -20,7 +36,7 @@ pub fn end_of(b: &[u8], p: usize) -> usize
     requires { end_of b.now p ≤ length b.now }
     ensures { result ≡ end_of b.now p }
 {
-    p + 3 + ((b[p + 1] as usize) + (b[p + 2] as usize) * 256)
+    p + 3 + len_of(b, p)
 }
 
 // The number that the field at p holds in two bytes.
@@ -28,7 +44,7 @@ pub fn number_at(b: &[u8], p: usize) -> usize
     requires { p + 5 ≤ length b.now }
     ensures { (result ≡ pair_at b.now (p + 3)) × (result < 65536) }
 {
-    (b[p + 3] as usize) + (b[p + 4] as usize) * 256
+    pair(b, p + 3)
 }
 
 // The code point that the field at p holds in four bytes.
@@ -36,10 +52,48 @@ pub fn char_at(b: &[u8], p: usize) -> u32
     requires { p + 7 ≤ length b.now }
     ensures { result ≡ four_of b.now (p + 3) }
 {
-    (b[p + 3] as u32)
-        + (b[p + 4] as u32) * 256
-        + (b[p + 5] as u32) * 65536
-        + (b[p + 6] as u32) * 16777216
+    four(b, p + 3)
+}
+
+// The places of the fields that stand from `at` up to `end`, each where the one before it ends.
+#[derive(Clone, Copy)]
+pub struct Places<'a> {
+    pub tree: &'a [u8],
+    pub at: usize,
+    pub end: usize,
+}
+
+// The fields from q up to z.
+pub fn fields(b: &[u8], q: usize, z: usize) -> Places<'_>
+    ensures { (result.tree.now ≡ b.now) × (result.at ≡ q) × (result.end ≡ z) }
+{
+    Places {
+        tree: b,
+        at: q,
+        end: z,
+    }
+}
+
+impl<'a> Iterator for Places<'a> {
+    ghost use Rattle.reads.specs.Places.{Stand, GivesField, fields_left};
+
+    type Item = usize;
+
+    ghost can_next = { Stand };
+
+    ghost next_gives = { GivesField };
+
+    ghost remaining = { fields_left };
+
+    #[inline]
+    fn next(&mut self) -> Option<usize> {
+        let p = self.at;
+        if p < self.end {
+            self.at = end_of(self.tree, p);
+            return Some(p);
+        }
+        None
+    }
 }
 
 // How many fields stand from q up to z.
@@ -47,13 +101,7 @@ pub fn members(b: &[u8], q: usize, z: usize) -> usize
     requires { (z ≤ length b.now) × ((rs : Roses) × Row b.now rs q z) }
     ensures { (rs : Roses) → Row b.now rs q z → (result ≡ many rs) × (q + 3 * result ≤ z) }
 {
-    let mut i = 0;
-    let mut p = q;
-    while p < z {
-        p = end_of(b, p);
-        i += 1;
-    }
-    i
+    fields(b, q, z).count()
 }
 
 // Parameters from q on: how many, and the place after them. A term follows them, whose tag is no parameter's.
@@ -93,10 +141,7 @@ pub fn is_tag(b: &[u8], q: usize, z: usize, tag: u8) -> bool
     requires { z ≤ length b.now }
     ensures { result ≡ is_tag b.now q z tag }
 {
-    if q < z {
-        return b[q] == tag;
-    }
-    false
+    q < z && b[q] == tag
 }
 
 // The place after the field of the tag at q, if it stands there.
@@ -126,10 +171,7 @@ pub fn is_var(b: &[u8], p: usize) -> bool
     requires { end_of b.now p ≤ length b.now }
     ensures { result ≡ is_var (text_of b.now p) }
 {
-    if len_of(b, p) == 0 {
-        return false;
-    }
-    b[p + 3] == 36
+    len_of(b, p) != 0 && b[p + 3] == b'$'
 }
 
 // Whether the bytes of b from p on, as many as x has, are x.
@@ -137,14 +179,7 @@ pub fn same(b: &[u8], p: usize, x: &[u8]) -> bool
     requires { p + length x.now ≤ length b.now }
     ensures { result ≡ same x.now (take (length x.now) (drop p b.now)) }
 {
-    let mut i = 0;
-    while i < x.len() {
-        if b[p + i] != x[i] {
-            return false;
-        }
-        i += 1;
-    }
-    true
+    x == &b[p..p + x.len()]
 }
 
 // Whether the text of the field at p is x.
@@ -152,20 +187,7 @@ pub fn is_text(b: &[u8], p: usize, x: &[u8]) -> bool
     requires { end_of b.now p ≤ length b.now }
     ensures { result ≡ same x.now (text_of b.now p) }
 {
-    if len_of(b, p) == x.len() {
-        return same(b, p + 3, x);
-    }
-    false
-}
-
-fn four(b: &[u8], p: usize) -> u64
-    requires { p + 4 ≤ length b.now }
-    ensures { (result ≡ four_of b.now p) × (result < 4294967296) }
-{
-    (b[p] as u64)
-        + (b[p + 1] as u64) * 256
-        + (b[p + 2] as u64) * 65536
-        + (b[p + 3] as u64) * 16777216
+    x == &b[p + 3..end_of(b, p)]
 }
 
 // A word of a text: the first four bytes and the last four, or, of a shorter one, first, middle and last. Texts whose words differ differ.
@@ -174,45 +196,39 @@ pub fn word(x: &[u8]) -> u64
 {
     let l = x.len();
     if 4 <= l {
-        return four(x, 0) + four(x, l - 4) * 4294967296;
+        return u64::from(four(x, 0)) + u64::from(four(x, l - 4)) * 4294967296;
     }
     if l == 0 {
         return 0;
     }
-    (x[0] as u64) + (x[l / 2] as u64) * 256 + (x[l - 1] as u64) * 65536
+    u64::from(u32::from_le_bytes([x[0], x[l / 2], x[l - 1], 0]))
 }
 
-// Where a `::` that place i is part of starts, or the length of the text; i is not 0.
-fn colons_at(x: &[u8], i: usize) -> usize
+// Where a `::` that place i is part of starts; i is not 0.
+fn colons_at(x: &[u8], i: usize) -> Option<usize>
     requires { (0 < i) × (i < length x.now) }
-    ensures { result ≡ colons_at x.now i }
+    ensures { SomeIff result (colons_at x.now i < length x.now) (colons_at x.now i) }
 {
-    if x[i] != 58 {
-        return x.len();
+    if x[i] != b':' {
+        return None;
     }
-    if x[i - 1] == 58 {
-        return i - 1;
+    if x[i - 1] == b':' {
+        return Some(i - 1);
     }
-    if x.len() <= i + 1 {
-        return x.len();
+    if i + 1 < x.len() && x[i + 1] == b':' {
+        return Some(i);
     }
-    if x[i + 1] == 58 {
-        return i;
-    }
-    x.len()
+    None
 }
 
-// Where the first `::` of a text starts, or its length. Of two neighbouring places one is odd, so only these are looked at.
-pub fn colons(x: &[u8]) -> usize
-    ensures { result ≡ colons_of x.now }
+// Where the first `::` of a text starts. Of two neighbouring places one is odd, so only these are looked at.
+pub fn colons(x: &[u8]) -> Option<usize>
+    ensures { SomeIff result (colons_of x.now < length x.now) (colons_of x.now) }
 {
-    let mut i = 1;
-    while i < x.len() {
-        let r = colons_at(x, i);
-        if r < x.len() {
-            return r;
+    for i in (1..x.len()).step_by(2) {
+        if let Some(start) = colons_at(x, i) {
+            return Some(start);
         }
-        i += 2;
     }
-    x.len()
+    None
 }

@@ -1,46 +1,32 @@
 // How long a term's own record is, as far as the tree alone tells. Each width is asked for some tree that stands at the place, and is right for every
 // tree that does.
-ghost use Rattle.std.specs.Prelude.{◌≡◌, cond, ℕ, ◌+◌, ◌*◌, ◌≤◌, ◌<◌, length, get_or};
+ghost use Rattle.std.specs.Prelude.{◌≡◌, cond, ℕ, ◌+◌, ◌*◌, ◌^◌, ◌≤◌, ◌<◌, length, get_or, SomeIff};
 ghost use Rattle.tree.specs.Rose.{rnil, rcons, end_of, text_of, Row};
 ghost use Rattle.tree.specs.Tree.{Term, Pattern, Parts, Part, StrParts, StrPart, Entries};
 ghost use Rattle.tree.specs.Form.{f_part, f_parts, f_str_part, f_str_parts, f_entries};
 ghost use Rattle.reads.specs.Bytes.{TermAt, PatternAt};
 ghost use Rattle.reads.specs.Widths.{OwnWidth, pat_width, part_width, parts_width, fold_kind, fold_width, int_of, num_width, op_width, str_width, strings_width, entries_width, is_plain};
+ghost use Rattle.reads.specs.Kinds.{fold_number};
 ghost use Rattle.reads.specs.Folds.{FoldOf};
 
 use crate::bytes;
-use crate::bytes::{end_of, is_text, len_of, members, past};
-
-// What int_of gives for a text that is no integer.
-pub const NO_INT: u64 = 0x8000_0000_0000_0000;
+use crate::bytes::{end_of, fields, is_text, len_of, members, past};
 
 // "Num: one or more decimal digits alone, at most 2^63-1, give Int"
-pub fn int_of(x: &[u8]) -> u64
-    ensures { result ≡ int_of x.now }
+pub fn int_of(x: &[u8]) -> Option<u64>
+    ensures { SomeIff result (int_of x.now < 2 ^ 63) (int_of x.now) }
 {
-    if x.len() == 0 {
-        return NO_INT;
+    let mut v: u64 = 0;
+    for digit in x {
+        if !digit.is_ascii_digit() {
+            return None;
+        }
+        v = v.checked_mul(10)?.checked_add(u64::from(*digit - b'0'))?;
     }
-    let mut v = 0;
-    let mut i = 0;
-    while i < x.len() {
-        let d = x[i] as u64;
-        if d < 48 {
-            return NO_INT;
-        }
-        if 57 < d {
-            return NO_INT;
-        }
-        if 922337203685477580 < v {
-            return NO_INT;
-        }
-        v = v * 10 + (d - 48);
-        if NO_INT <= v {
-            return NO_INT;
-        }
-        i += 1;
+    if x.is_empty() || 1 << 63 <= v {
+        return None;
     }
-    v
+    Some(v)
 }
 
 // The own record of the Num at p.
@@ -49,10 +35,10 @@ pub fn num_width(b: &[u8], p: usize) -> usize
     ensures { (result ≡ num_width (text_of b.now p)) × (result + p ≤ end_of b.now p + 8) }
 {
     let z = end_of(b, p);
-    if int_of(&b[p + 3..z]) < NO_INT {
-        return 11;
+    match int_of(&b[p + 3..z]) {
+        Some(_) => 11,
+        None => z - p,
     }
-    z - p
 }
 
 // ---- operators
@@ -77,12 +63,9 @@ pub fn pattern_width(b: &[u8], q: usize) -> usize
     if tag == 0x98 {
         return 1;
     }
-    let z = end_of(b, q);
-    let mut p = q + 3;
     let mut w = 3;
-    while p < z {
+    for p in fields(b, q + 3, end_of(b, q)) {
         w += 2 + pattern_width(b, bytes::sub_pattern(b, tag, p));
-        p = end_of(b, p);
     }
     w
 }
@@ -104,8 +87,15 @@ pub fn binary_width(b: &[u8], p: usize) -> usize
 
 // ---- folds
 
-// A fold: the places of source, pattern, init and update, how many arguments it has, what it is (0 reduce, 1 foreach, 2 foreach with a projection,
-// 3 none), and the length of its record.
+// What a fold is, by its name and by how many arguments it has.
+#[derive(Clone, Copy, PartialEq, Eq)]
+pub enum FoldKind {
+    Reduce,
+    Foreach,
+    Projected,
+}
+
+// A fold: the places of source, pattern, init and update, how many arguments it has, what it is, if it is any of these, and the length of its record.
 #[derive(Clone, Copy)]
 pub struct Fold {
     pub x: usize,
@@ -113,54 +103,31 @@ pub struct Fold {
     pub i: usize,
     pub u: usize,
     pub a: usize,
-    pub kind: u8,
+    pub kind: Option<FoldKind>,
     pub w: usize,
 }
 
-fn kind_of_two(b: &[u8], p: usize) -> u8
-    requires { end_of b.now p ≤ length b.now }
-    ensures { result ≡ fold_kind (text_of b.now p) 2 }
-{
-    if is_text(b, p, b"reduce") {
-        return 0;
-    }
-    if is_text(b, p, b"foreach") {
-        return 1;
-    }
-    3
-}
-
-fn kind_of_three(b: &[u8], p: usize) -> u8
-    requires { end_of b.now p ≤ length b.now }
-    ensures { result ≡ fold_kind (text_of b.now p) 3 }
-{
-    if is_text(b, p, b"foreach") {
-        return 2;
-    }
-    3
-}
-
 // "`reduce` needs two, `foreach` two or three"
-fn fold_kind(b: &[u8], p: usize, a: usize) -> u8
+fn fold_kind(b: &[u8], p: usize, a: usize) -> Option<FoldKind>
     requires { end_of b.now p ≤ length b.now }
-    ensures { result ≡ fold_kind (text_of b.now p) a }
+    ensures { fold_number result ≡ fold_kind (text_of b.now p) a }
 {
     match a {
-        2 => kind_of_two(b, p),
-        3 => kind_of_three(b, p),
-        _ => 3,
+        2 if is_text(b, p, b"reduce") => Some(FoldKind::Reduce),
+        2 if is_text(b, p, b"foreach") => Some(FoldKind::Foreach),
+        3 if is_text(b, p, b"foreach") => Some(FoldKind::Projected),
+        _ => None,
     }
 }
 
-fn fold_width(b: &[u8], q: usize, kind: u8) -> usize
+fn fold_width(b: &[u8], q: usize, kind: Option<FoldKind>) -> usize
     requires { ((x : Pattern) × PatternAt b.now x q) × (9 ≤ q) }
-    ensures { ((x : Pattern) → PatternAt b.now x q → result ≡ fold_width kind (pat_width x)) × (result + 2 * q ≤ 2 * end_of b.now q + 10) }
+    ensures { ((x : Pattern) → PatternAt b.now x q → result ≡ fold_width (fold_number kind) (pat_width x)) × (result + 2 * q ≤ 2 * end_of b.now q + 10) }
 {
-    match kind {
-        3 => 3,
-        2 => 12 + pattern_width(b, q),
-        _ => 10 + pattern_width(b, q),
-    }
+    let Some(kind) = kind else {
+        return 3;
+    };
+    10 + pattern_width(b, q) + 2 * usize::from(kind == FoldKind::Projected)
 }
 
 // The Fold at p.
@@ -172,23 +139,12 @@ pub fn fold_of(b: &[u8], p: usize) -> Fold
     let q = end_of(b, x);
     let i = end_of(b, q);
     let a = members(b, i, end_of(b, p));
-    if a < 2 {
-        return Fold {
-            x,
-            q,
-            i,
-            u: i,
-            a,
-            kind: 3,
-            w: 3,
-        };
-    }
     let kind = fold_kind(b, p + 3, a);
     Fold {
         x,
         q,
         i,
-        u: end_of(b, i),
+        u: if a < 2 { i } else { end_of(b, i) },
         a,
         kind,
         w: fold_width(b, q, kind),
@@ -225,11 +181,9 @@ pub fn parts_width(b: &[u8], q: usize, z: usize) -> usize
     requires { (z ≤ length b.now) × ((xs : Parts) × Row b.now (f_parts xs rnil) q z) }
     ensures { ((xs : Parts) → Row b.now (f_parts xs rnil) q z → result ≡ parts_width xs) × (result + 2 * q ≤ 2 * z) }
 {
-    let mut p = q;
     let mut w = 0;
-    while p < z {
+    for p in fields(b, q, z) {
         w += part_width(b, p);
-        p = end_of(b, p);
     }
     w
 }

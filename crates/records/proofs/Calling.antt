@@ -22,7 +22,7 @@ use Rattle.rules.specs.Outs.{Made, binds, call_out}
 use Rattle.reads.specs.Bytes.{names_of, Fields}
 use Rattle.cells.specs.Cells.{number_at, kind_at, arity_at, place_at, before_at, level_at, last_at, filter_at}
 use Rattle.cells.specs.Notes.{numbers_of}
-use Rattle.finds.specs.declared.Found as Hit
+use Rattle.finds.specs.Hits as Hit
 use Rattle.finds.specs.Means.{Readable, FoundIs}
 use Rattle.records.specs.Calls.{args_at, def_bytes, ArgsReady, jump_of, JumpReady, Callable, CallReady, CallPut}
 

@@ -3,18 +3,18 @@ use Prim.Native.Nat.{ℕ, zero, suc, ◌+◌, ◌-◌, ◌*◌, ◌≤◌, ◌<�
 use native.Mathlib.Omega.{arith}
 use mathlib.Core.Path.{◌≡◌, refl, sym, ap, ap₂, ◌∙◌}
 use mathlib.Core.List.{List, [], ◌∷◌, ◌++◌, append-nil}
-use lib.ListN.{length, set, length-set, length-append}
+use lib.ListN.{length, length-append}
 use Rattle.fields.specs.Number.{number}
 use Rattle.fields.specs.Field.{field}
 use Rattle.fields.specs.Room.{overlay, overlay-append, overlay-none, length-overlay}
 use Rattle.rules.specs.Table.{Rec, n_ite}
 use Rattle.rules.specs.Listing.{node_bytes, rec_bytes, table_bytes}
-use Rattle.puts.specs.State.{num, off}
+use Rattle.puts.specs.declared.state.State.{State}
+use Rattle.puts.specs.State.{num, off, with_num, with_off}
 use Rattle.puts.specs.Rooms.{table-append}
 use Rattle.cells.specs.Cells.{number_at, last_at}
 use Rattle.cells.specs.Notes.{Pair, elses_of, pairs_at}
-use Rattle.records.specs.Elses.{Elsed, two-stored}
-use Rattle.records.proofs.Stored.{again-stored, first-stored, same-stored}
+use Rattle.records.specs.Elses.{Elsed}
 
 -- the records of all these pairs
 unfoldable pub backs : ℕ → List Pair → ℕ → List Rec
@@ -26,38 +26,36 @@ unfolding elses_of backs
 backs-are p x [] n = refl
 backs-are p x (y ∷ ys) n = ap (λ (rs : List Rec). rs ++ (record { place = p; node = n_ite y.test y.then (n + length rs) } ∷ [])) (backs-are p y ys n)
 
-pub record Turning (s : List ℕ) (k i : ℕ) (st₀ d₀ : List ℕ) (j : ℕ) (st d : List ℕ) : Type 0 where
-  pub state : (p : ℕ) → st ≡ set (set st₀ 0 (num st₀ + length (backs p (pairs_at s j (i - j)) (num st₀)))) 1 (off st₀ + length (table_bytes 2 (backs p (pairs_at s j (i - j)) (num st₀))))
+pub record Turning (s : List ℕ) (k i : ℕ) (st₀ : State) (d₀ : List ℕ) (j : ℕ) (st : State) (d : List ℕ) : Type 0 where
+  pub state : (p : ℕ) → st ≡ with_off (with_num st₀ (num st₀ + length (backs p (pairs_at s j (i - j)) (num st₀)))) (off st₀ + length (table_bytes 2 (backs p (pairs_at s j (i - j)) (num st₀))))
   pub room : (p : ℕ) → d ≡ overlay d₀ (off st₀) (table_bytes 2 (backs p (pairs_at s j (i - j)) (num st₀)))
   pub low : k < i → k < j
   pub least : k ≤ j
   pub high : j ≤ i
   pub nums : num st ≡ num st₀ + (i - j)
   pub offs : off st ≡ off st₀ + 9 * (i - j)
-  pub three : length st₀ ≡ 3
   pub same : length d ≡ length d₀
 
-pub begin : (s : List ℕ) (k i : ℕ) (st d : List ℕ) → length st ≡ 3 → k ≤ i → Turning s k i st d i st d
+pub begin : (s : List ℕ) (k i : ℕ) (st : State) (d : List ℕ) → k ≤ i → Turning s k i st d i st d
 unfolding backs pairs_at
-begin s k i st d h q =
+begin s k i st d q =
     let z : i - i ≡ 0 = omega arith in
     let n : num st + 0 ≡ num st = omega arith in
     let o : off st + 0 ≡ off st = omega arith in
     record {
-      state = λ p. rw (z, n, o) (sym (same-stored st));
+      state = λ p. rw (z, n, o);
       room = λ p. rw z (sym (overlay-none d (off st)));
       low = λ g. g;
       least = q;
       high = omega arith;
       nums = omega arith;
       offs = omega arith;
-      three = h;
       same = refl;
     }
 
 -- one pair more
-module _ (s : List ℕ) (k i : ℕ) (st₀ d₀ : List ℕ) (j : ℕ) (st d st₁ d₁ : List ℕ) (t : Turning s k i st₀ d₀ j st d) (g : k + 1 < j)
-    (e : st₁ ≡ set (set st 0 (num st + 1)) 1 (off st + 9)) (f : d₁ ≡ overlay d (off st) (node_bytes 2 (n_ite (number_at s (j - 1)) (last_at s (j - 1)) (num st)))) where
+module _ (s : List ℕ) (k i : ℕ) (st₀ : State) (d₀ : List ℕ) (j : ℕ) (st : State) (d : List ℕ) (st₁ : State) (d₁ : List ℕ) (t : Turning s k i st₀ d₀ j st d) (g : k + 1 < j)
+    (e : st₁ ≡ with_off (with_num st (num st + 1)) (off st + 9)) (f : d₁ ≡ overlay d (off st) (node_bytes 2 (n_ite (number_at s (j - 1)) (last_at s (j - 1)) (num st)))) where
   rs : ℕ → List Rec
   rs p = backs p (pairs_at s j (i - j)) (num st₀)
 
@@ -73,11 +71,11 @@ module _ (s : List ℕ) (k i : ℕ) (st₀ d₀ : List ℕ) (j : ℕ) (st d st�
 
   now-num : (p : ℕ) → num st ≡ num st₀ + length (rs p)
   unfolding rs
-  now-num p = ap num (t.state p) ∙ (two-stored st₀ (num st₀ + length (rs p)) (off st₀ + length (table_bytes 2 (rs p))) t.three).0
+  now-num p = ap num (t.state p)
 
   now-off : (p : ℕ) → off st ≡ off st₀ + length (table_bytes 2 (rs p))
   unfolding rs
-  now-off p = ap off (t.state p) ∙ (two-stored st₀ (num st₀ + length (rs p)) (off st₀ + length (table_bytes 2 (rs p))) t.three).1
+  now-off p = ap off (t.state p)
 
   bytes : (p : ℕ) → table_bytes 2 (rs p ++ (own p ∷ [])) ≡ table_bytes 2 (rs p) ++ rec_bytes 2 (own p)
   bytes p = table-append (rs p) (own p ∷ []) ∙ ap (λ (l : List ℕ). table_bytes 2 (rs p) ++ l) (append-nil (rec_bytes 2 (own p)))
@@ -91,10 +89,9 @@ module _ (s : List ℕ) (k i : ℕ) (st₀ d₀ : List ℕ) (j : ℕ) (st d st�
   turn =
       record {
         state = λ p.
-            e ∙ ap₂ (λ (x y : ℕ). set (set st 0 x) 1 y) (omega (arith, now-num p, ap length (more p), length-append (rs p) (own p ∷ [])))
+            e ∙ ap₂ (λ (x y : ℕ). with_off (with_num st x) y) (omega (arith, now-num p, ap length (more p), length-append (rs p) (own p ∷ [])))
             (omega (arith, now-off p, nine p, ap (λ (l : List Rec). length (table_bytes 2 l)) (more p), ap length (bytes p), length-append (table_bytes 2 (rs p)) (rec_bytes 2 (own p))))
-            ∙ ap (λ (l : List ℕ). set (set l 0 (num st₀ + length (backs p (pairs_at s (j - 1) (i - (j - 1))) (num st₀)))) 1 (off st₀ + length (table_bytes 2 (backs p (pairs_at s (j - 1) (i - (j - 1))) (num st₀))))) (t.state p)
-            ∙ again-stored st₀ _ _ _ _;
+            ∙ ap (λ (l : State). with_off (with_num l (num st₀ + length (backs p (pairs_at s (j - 1) (i - (j - 1))) (num st₀)))) (off st₀ + length (table_bytes 2 (backs p (pairs_at s (j - 1) (i - (j - 1))) (num st₀))))) (t.state p);
         room = λ p.
             f ∙ ap (λ (n : ℕ). overlay d (off st) (node_bytes 2 (n_ite (number_at s (j - 1)) (last_at s (j - 1)) n))) (now-num p)
             ∙ ap₂ (λ (l : List ℕ) (o : ℕ). overlay l o (rec_bytes 2 (own p))) (t.room p) (now-off p)
@@ -103,16 +100,12 @@ module _ (s : List ℕ) (k i : ℕ) (st₀ d₀ : List ℕ) (j : ℕ) (st d st�
         low = λ h. omega arith;
         least = omega arith;
         high = omega (arith, t.high);
-        nums = ap num e ∙ (two-stored st (num st + 1) (off st + 9) len).0 ∙ omega (arith, t.nums, t.high);
-        offs = ap off e ∙ (two-stored st (num st + 1) (off st + 9) len).1 ∙ omega (arith, t.offs, t.high);
-        three = t.three;
+        nums = ap num e ∙ omega (arith, t.nums, t.high);
+        offs = ap off e ∙ omega (arith, t.offs, t.high);
         same = ap length f ∙ length-overlay d (off st) (node_bytes 2 (n_ite (number_at s (j - 1)) (last_at s (j - 1)) (num st))) ∙ t.same;
       }
-    where
-      len : length st ≡ 3
-      len = ap length (t.state 0) ∙ simp length-set t.three
 
-pub finish : (s : List ℕ) (k i : ℕ) (st₀ d₀ : List ℕ) (j : ℕ) (st d st₁ : List ℕ) (r : ℕ) → Turning s k i st₀ d₀ j st d → k ≤ i → j ≤ k + 1 → r ≡ num st → st₁ ≡ set st 0 (num st + 1)
+pub finish : (s : List ℕ) (k i : ℕ) (st₀ : State) (d₀ : List ℕ) (j : ℕ) (st : State) (d : List ℕ) (st₁ : State) (r : ℕ) → Turning s k i st₀ d₀ j st d → k ≤ i → j ≤ k + 1 → r ≡ num st → st₁ ≡ with_num st (num st + 1)
     → Elsed (pairs_at s k (i - k)) st₀ st₁ d₀ d r
 unfolding pairs_at backs elses_of
 finish s k i st₀ d₀ j st d st₁ r t h g e f = record { number = λ p. number p; state = λ p. state p; room = λ p. t.room p ∙ ap (λ (l : List Rec). overlay d₀ (off st₀) (table_bytes 2 l)) (rest p) }
@@ -134,13 +127,12 @@ finish s k i st₀ d₀ j st d st₁ r t h g e f = record { number = λ p. numbe
     rest p = some p (i - k) refl
 
     now-num : (p : ℕ) → num st ≡ num st₀ + length (rs p)
-    now-num p = ap num (t.state p) ∙ (two-stored st₀ (num st₀ + length (rs p)) (off st₀ + length (table_bytes 2 (rs p))) t.three).0
+    now-num p = ap num (t.state p)
 
     number : (p : ℕ) → r ≡ num st₀ + length (all p)
     number p = e ∙ now-num p ∙ ap (λ (l : List Rec). num st₀ + length l) (rest p)
 
-    state : (p : ℕ) → st₁ ≡ set (set st₀ 0 (num st₀ + length (all p) + 1)) 1 (off st₀ + length (table_bytes 2 (all p)))
+    state : (p : ℕ) → st₁ ≡ with_off (with_num st₀ (num st₀ + length (all p) + 1)) (off st₀ + length (table_bytes 2 (all p)))
     state p =
-        f ∙ ap₂ (λ (l : List ℕ) (n : ℕ). set l 0 (n + 1)) (t.state p) (now-num p)
-        ∙ first-stored st₀ (num st₀ + length (rs p)) (off st₀ + length (table_bytes 2 (rs p))) (num st₀ + length (rs p) + 1)
-        ∙ ap (λ (l : List Rec). set (set st₀ 0 (num st₀ + length l + 1)) 1 (off st₀ + length (table_bytes 2 l))) (rest p)
+        f ∙ ap₂ (λ (l : State) (n : ℕ). with_num l (n + 1)) (t.state p) (now-num p)
+        ∙ ap (λ (l : List Rec). with_off (with_num st₀ (num st₀ + length l + 1)) (off st₀ + length (table_bytes 2 l))) (rest p)

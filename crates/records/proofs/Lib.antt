@@ -1,4 +1,3 @@
-mod Stored
 mod Elsing
 mod Small
 mod Jumps

@@ -219,6 +219,10 @@ pub record Going (b s : List ℕ) (q k o : ℕ) (d₀ : List ℕ) (tag z p x j :
 pub head-put : (d d₁ d₂ : List ℕ) (o n : ℕ) → d₁ ≡ set d o 2 → d₂ ≡ overlay d₁ (o + 1) (number 2 n) → d₂ ≡ overlay d o (2 ∷ number 2 n)
 head-put d d₁ d₂ o n h i = i ∙ rw (h, ← (overlay-one d o 2)) (overlay-append d o (2 ∷ []) (number 2 n))
 
+-- p is where the next one stands
+pub going-on : (b s : List ℕ) (q k o : ℕ) (d₀ : List ℕ) (tag z n p x j : ℕ) (d : List ℕ) → n ≡ p → Going b s q k o d₀ tag z n x j d → Going b s q k o d₀ tag z p x j d
+going-on b s q k o d₀ tag z n p x j d e g = subst (λ (i : ℕ). Going b s q k o d₀ tag z i x j d) e g
+
 pub begin : (b s : List ℕ) (q k o : ℕ) (d : List ℕ)
     → (y : Pattern) → PatternAt b y q → (get_or b q 0 ≡ 0x98 → ⊥) → 4 * (k + notes_in y) ≤ length s → o + pat_width y < 2 ^ 64 → end_of b q ≤ length b
     → Going b s q k o d (get_or b q 0) (end_of b q) (q + 3) (o + 3) (k + 1) d

@@ -10,14 +10,19 @@ use borrow.Author.Tests.{eqb-true, eqb-false, lt-ltb, le-ltb, eq-eqb, ne_eqb}
 use Rattle.fields.specs.Number.{number}
 use Rattle.fields.specs.Field.{field}
 use Rattle.fields.specs.Room.{overlay, overlay-one, overlay-none}
-use Rattle.puts.specs.State.{ers}
+use Rattle.puts.specs.declared.state.State.{State}
+use Rattle.puts.specs.State.{ers, with_ers}
 use Rattle.puts.specs.Runs.{run-then, byte-then, then-byte}
 use Rattle.rules.specs.Table.{n_path, index}
-use Rattle.rules.specs.Listing.{node_bytes, fold_bytes, opt_number, step_bytes, steps_bytes}
-use Rattle.finds.specs.declared.Found as Hit
+use Rattle.rules.specs.Listing.{flag, node_bytes, fold_bytes, opt_number, step_bytes, steps_bytes}
+use Rattle.finds.specs.Hits as Hit
 use Rattle.records.specs.Operators.{op_tag}
 use Rattle.records.specs.Patterns.{folding_of}
+use Rattle.records.specs.Bounds.{bound_of}
 use Rattle.records.specs.Steps.{given, Puts}
+use Rattle.std.specs.Bool.{then_some}
+use Rattle.std.specs.Int.{from_bool}
+use Rattle.std.proofs.Math.Option.{none, some}
 use Rattle.records.specs.Calls.{lost_errs, Failed}
 
 -- ---- operators, by where their byte lies
@@ -56,13 +61,23 @@ op-key x k e = ap op_tag (sym e)
 
 -- ---- bounds
 
-pub bound-on : (on : Bool) (a o : ℕ) (d d₁ d₂ : List ℕ) → on ≡ true → d₁ ≡ set d o 1 → d₂ ≡ overlay d₁ (o + 1) (number 2 a) → Puts (opt_number 2 (given on a)) o d d₂ (o + 3)
+pub bound-on : (a o : ℕ) (d d₁ d₂ : List ℕ) → d₁ ≡ set d o 1 → d₂ ≡ overlay d₁ (o + 1) (number 2 a) → Puts (opt_number 2 (some a)) o d d₂ (o + 3)
 unfolding opt_number number
-bound-on on a o d d₁ d₂ t e f = rw t (record { room = byte-then d o 1 (number 2 a) d₁ d₂ e f; end = refl })
+bound-on a o d d₁ d₂ e f = record { room = byte-then d o 1 (number 2 a) d₁ d₂ e f; end = refl }
 
-pub bound-off : (on : Bool) (a o : ℕ) (d d₁ : List ℕ) → on ≡ false → d₁ ≡ set d o 0 → Puts (opt_number 2 (given on a)) o d d₁ (o + 1)
+pub bound-off : (o : ℕ) (d d₁ : List ℕ) → d₁ ≡ set d o 0 → Puts (opt_number 2 none) o d d₁ (o + 1)
 unfolding opt_number
-bound-off on a o d d₁ t e = rw t (record { room = e ∙ sym (overlay-one d o 0); end = refl })
+bound-off o d d₁ e = record { room = e ∙ sym (overlay-one d o 0); end = refl }
+
+-- a bound that is there where t says so
+pub bound-given : (t : Bool) (a : ℕ) → bound_of (then_some t a) ≡ given t a
+bound-given true a = refl
+bound-given false a = refl
+
+-- a truth as a byte
+pub byte-flag : (t : Bool) → from_bool t ≡ flag t
+byte-flag true = refl
+byte-flag false = refl
 
 -- ---- foldings
 
@@ -92,24 +107,18 @@ own-path a b o d d₁ d₂ d₃ d₄ d₅ e₁ e₂ e₃ e₄ e₅ =
 
 -- ---- errors
 
-pub no-filter : (s : List ℕ) (f : Hit.Found) (a e : ℕ) (st st₁ d d₁ : List ℕ) → f.kind ≡ 0 → e ≡ ers st → st₁ ≡ set st 2 (ers st + 11)
+pub no-filter : (s : List ℕ) (f : Hit.Found) (a e : ℕ) (st st₁ : State) (d d₁ : List ℕ) → f.kind ≡ 0 → e ≡ ers st → st₁ ≡ with_ers st (ers st + 11)
     → d₁ ≡ overlay d e (field 0x2B (number 2 (get_or s 3 0) ++ (number 2 f.at ++ number 2 f.len) ++ number 2 a)) → Failed s f a st st₁ d d₁
 unfolding lost_errs field number
 no-filter s f a e st st₁ d d₁ k g h i = record { state = simp k h; room = simp k (rw g at i) }
 
-pub no-module : (s : List ℕ) (f : Hit.Found) (a e : ℕ) (st st₁ d d₁ : List ℕ) → f.kind ≡ 1 → e ≡ ers st → st₁ ≡ set st 2 (ers st + 9)
+pub no-module : (s : List ℕ) (f : Hit.Found) (a e : ℕ) (st st₁ : State) (d d₁ : List ℕ) → f.kind ≡ 1 → e ≡ ers st → st₁ ≡ with_ers st (ers st + 9)
     → d₁ ≡ overlay d e (field 0x28 (number 2 (get_or s 3 0) ++ (number 2 f.at ++ number 2 f.len))) → Failed s f a st st₁ d d₁
 unfolding lost_errs field number
 no-module s f a e st st₁ d d₁ k g h i = record { state = simp k h; room = simp k (rw g at i) }
 
-third-stored : (st : List ℕ) → st ≡ set st 2 (ers st)
-third-stored [] = refl
-third-stored (a ∷ []) = refl
-third-stored (a ∷ b ∷ []) = refl
-third-stored (a ∷ b ∷ c ∷ l) = refl
-
-pub no-error : (s : List ℕ) (f : Hit.Found) (a : ℕ) (st d : List ℕ) → (f.kind ≡ 0 → ⊥) → (f.kind ≡ 1 → ⊥) → Failed s f a st st d d
+pub no-error : (s : List ℕ) (f : Hit.Found) (a : ℕ) (st : State) (d : List ℕ) → (f.kind ≡ 0 → ⊥) → (f.kind ≡ 1 → ⊥) → Failed s f a st st d d
 unfolding lost_errs
 no-error s f a st d h k =
     let z : ers st + 0 ≡ ers st = omega arith in
-    record { state = simp (ne_eqb f.kind 0 h, ne_eqb f.kind 1 k) (rw z (third-stored st)); room = simp (ne_eqb f.kind 0 h, ne_eqb f.kind 1 k) (sym (overlay-none d (ers st))) }
+    record { state = simp (ne_eqb f.kind 0 h, ne_eqb f.kind 1 k) (rw z); room = simp (ne_eqb f.kind 0 h, ne_eqb f.kind 1 k) (sym (overlay-none d (ers st))) }

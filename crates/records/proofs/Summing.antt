@@ -5,21 +5,20 @@ use mathlib.Core.Path.{◌≡◌, refl, sym, ap, ap₂, subst, ◌∙◌}
 use mathlib.Core.Bool.{Bool, true, false, cond}
 use mathlib.Core.List.{List, [], ◌∷◌, ◌++◌, append-nil}
 use lib.Dec.{eqb}
-use lib.ListN.{length, get_or, set, drop, length-set, length-append, length-drop}
+use lib.ListN.{length, get_or, drop, length-append, length-drop}
 use lib.Seq.{drop-cons}
 use Rattle.fields.specs.Number.{number}
 use Rattle.fields.specs.Field.{field}
 use Rattle.fields.specs.Room.{overlay, overlay-none}
 use Rattle.puts.specs.Runs.{run-then}
 use Rattle.puts.specs.Rooms.{table-append}
-use Rattle.puts.specs.State.{num, off, ers, late, spot_of, next_of}
+use Rattle.puts.specs.declared.state.State.{State}
+use Rattle.puts.specs.State.{num, off, late, spot_of, next_of, with_num, with_off}
 use Rattle.rules.specs.Table.{Rec, Node, n_id, n_math}
 use Rattle.rules.specs.Listing.{node_bytes, table_bytes}
 use Rattle.cells.specs.Notes.{summed}
-use Rattle.records.specs.Elses.{two-stored}
 use Rattle.records.specs.Steps.{Puts}
 use Rattle.records.specs.Sums.{SummandIs, Summands, sizes, SumReady, OwnReady, SumsPut, SumPut}
-use Rattle.records.proofs.Stored.{again-stored, second-stored, other-order, same-stored}
 
 -- ---- a sum's records, one summand more
 
@@ -103,13 +102,11 @@ more-sum p m n t (x ∷ y ∷ ys) j i o d d₁ k g l e h =
 
 -- ---- the loop
 
-pub record Turning (b s : List ℕ) (f k i : ℕ) (st₀ d₀ : List ℕ) (j : ℕ) (st d : List ℕ) : Type 0 where
+pub record Turning (b s : List ℕ) (f k i : ℕ) (st₀ : State) (d₀ : List ℕ) (j : ℕ) (st : State) (d : List ℕ) : Type 0 where
   pub goes : (ts : List Node) (p : ℕ) (t : Node) → Summands b s f k ts → i ≡ k + length ts → SumsPut p t (drop (j - k) ts) st₀ st d₀ d
   pub low : k ≤ j
   pub high : j < i
   pub nums : num st ≡ num st₀ + 2 * (i - 1 - j)
-  pub three : length st₀ ≡ 3
-  pub len : length st ≡ 3
   pub same : length d ≡ length d₀
 
 last_one : (ts : List Node) (m : ℕ) → length ts ≡ suc m → (x : Node) × (drop m ts ≡ x ∷ [])
@@ -119,25 +116,23 @@ last_one (x ∷ []) (suc m) h = absurd (omega arith)
 last_one (x ∷ y ∷ ys) zero h = absurd (omega arith)
 last_one (x ∷ y ∷ ys) (suc m) h = last_one (y ∷ ys) m (omega arith)
 
-pub begin : (b s : List ℕ) (f k i : ℕ) (st d : List ℕ) → length st ≡ 3 → k < i → Turning b s f k i st d (i - 1) st d
+pub begin : (b s : List ℕ) (f k i : ℕ) (st : State) (d : List ℕ) → k < i → Turning b s f k i st d (i - 1) st d
 unfolding summed
-begin b s f k i st d h g =
+begin b s f k i st d g =
     record {
       goes = λ ts p t a l.
           let x = last_one ts (i - 1 - k) (omega arith) in
           let n : num st + 0 ≡ num st = omega arith in
           let o : off st + 0 ≡ off st = omega arith in
-          record { state = rw (x.1, n, o) (sym (same-stored st)); room = rw x.1 (sym (overlay-none d (off st))) };
+          record { state = rw (x.1, n, o); room = rw x.1 (sym (overlay-none d (off st))) };
       low = omega arith;
       high = omega arith;
       nums = omega arith;
-      three = h;
-      len = h;
       same = refl;
     }
 
 -- what is left from row j on
-module _ (b s : List ℕ) (f k i : ℕ) (st₀ d₀ : List ℕ) (j : ℕ) (st d : List ℕ) (w : Turning b s f k i st₀ d₀ j st d) (g : k < j) (ts : List Node) (a : Summands b s f k ts) (l : i ≡ k + length ts) where
+module _ (b s : List ℕ) (f k i : ℕ) (st₀ : State) (d₀ : List ℕ) (j : ℕ) (st : State) (d : List ℕ) (w : Turning b s f k i st₀ d₀ j st d) (g : k < j) (ts : List Node) (a : Summands b s f k ts) (l : i ≡ k + length ts) where
   abbrev behind : List Node
   behind = drop (j - k) ts
 
@@ -168,10 +163,10 @@ module _ (b s : List ℕ) (f k i : ℕ) (st₀ d₀ : List ℕ) (j : ℕ) (st d 
     all = w.goes ts p t a l
 
     pub num-now : num st ≡ num st₀ + length (rest p t (num st₀) behind)
-    num-now = ap num all.state ∙ (two-stored st₀ (num st₀ + length (rest p t (num st₀) behind)) (off st₀ + length (table_bytes 2 (rest p t (num st₀) behind))) w.three).0
+    num-now = ap num all.state
 
     pub off-now : off st ≡ off st₀ + length (table_bytes 2 (rest p t (num st₀) behind))
-    off-now = ap off all.state ∙ (two-stored st₀ (num st₀ + length (rest p t (num st₀) behind)) (off st₀ + length (table_bytes 2 (rest p t (num st₀) behind))) w.three).1
+    off-now = ap off all.state
 
   -- no offset wraps
   bound : off st + length (node_bytes 2 first) + length (node_bytes 2 (own 0 n_id (num st₀) behind)) + 16 ≤ off st₀ + sizes ts
@@ -185,7 +180,7 @@ own-length p n t (x ∷ []) h = refl
 own-length p n t (x ∷ y ∷ ys) h = refl
 
 -- what the loop asks for
-pub record Asks (b s : List ℕ) (f i j : ℕ) (st : List ℕ) : Type 0 where
+pub record Asks (b s : List ℕ) (f i j : ℕ) (st : State) : Type 0 where
   pub row : 4 * (j - 1) + 4 ≤ length s
   pub summand : Node
   pub is : SummandIs b s f (j - 1) summand
@@ -194,7 +189,7 @@ pub record Asks (b s : List ℕ) (f i j : ℕ) (st : List ℕ) : Type 0 where
   pub two : j + 1 < i → 2 ≤ num st
   pub more : num st + 2 < 2 ^ 64
 
-pub asks : (b s : List ℕ) (f k i : ℕ) (st₀ d₀ : List ℕ) (j : ℕ) (st d : List ℕ) → Turning b s f k i st₀ d₀ j st d → k < j → SumReady b s f k i (off st₀) → num st₀ + 2 * (i - k) < 2 ^ 64
+pub asks : (b s : List ℕ) (f k i : ℕ) (st₀ : State) (d₀ : List ℕ) (j : ℕ) (st : State) (d : List ℕ) → Turning b s f k i st₀ d₀ j st d → k < j → SumReady b s f k i (off st₀) → num st₀ + 2 * (i - k) < 2 ^ 64
     → Asks b s f i j st
 asks b s f k i st₀ d₀ j st d w g r n =
     record {
@@ -223,19 +218,17 @@ asks b s f k i st₀ d₀ j st d w g r n =
     l : i ≡ k + length ts
     l = r.notes
 
-pub turn : (b s : List ℕ) (f k i : ℕ) (st₀ d₀ : List ℕ) (j : ℕ) (st d d₁ d₂ st₁ : List ℕ) (x r : ℕ) → Turning b s f k i st₀ d₀ j st d → k < j
+pub turn : (b s : List ℕ) (f k i : ℕ) (st₀ : State) (d₀ : List ℕ) (j : ℕ) (st : State) (d d₁ d₂ : List ℕ) (st₁ : State) (x r : ℕ) → Turning b s f k i st₀ d₀ j st d → k < j
     → ((t : Node) → SummandIs b s f (j - 1) t → Puts (node_bytes 2 t) (off st) d d₁ x)
     → ((ts : List Node) (p m : ℕ) (t : Node) → Summands b s f j ts → i ≡ j + length ts → num st ≡ m + length (summed p t m ts).more → Puts (node_bytes 2 (summed p t m ts).self) x d₁ d₂ r)
-    → st₁ ≡ set (set st 1 r) 0 (num st + 2) → length d₂ ≡ length d
+    → st₁ ≡ with_num (with_off st r) (num st + 2) → length d₂ ≡ length d
     → Turning b s f k i st₀ d₀ (j - 1) st₁ d₂
 turn b s f k i st₀ d₀ j st d d₁ d₂ st₁ x r w g u v e n =
     record {
       goes = λ ts p t a l. one ts p t a l;
       low = omega arith;
       high = omega (arith, w.high);
-      nums = ap num e ∙ ap num (other-order st (num st + 2) r) ∙ (two-stored st (num st + 2) r w.len).0 ∙ omega (arith, w.nums, w.high);
-      three = w.three;
-      len = ap length e ∙ simp length-set w.len;
+      nums = ap num e ∙ omega (arith, w.nums, w.high);
       same = n ∙ w.same;
     }
   where
@@ -252,17 +245,15 @@ turn b s f k i st₀ d₀ j st d d₁ d₂ st₁ x r w g u v e n =
         rw (split b s f k i st₀ d₀ j st d w g ts a l)
         (record {
           state =
-              e ∙ other-order st (num st + 2) r
-              ∙ ap₂ (λ (α β : ℕ). set (set st 0 α) 1 β) (omega (arith, m, more-count p t (num st₀) y ys c)) (omega (arith, o, p₁.end, p₂.end, ap length (more_bytes p t (num st₀) y ys c), length-append (table_bytes 2 (rest p t (num st₀) ys)) (node_bytes 2 y ++ node_bytes 2 (own p t (num st₀) ys)), length-append (node_bytes 2 y) (node_bytes 2 (own p t (num st₀) ys))))
-              ∙ ap (λ (z : List ℕ). set (set z 0 (num st₀ + length (rest p t (num st₀) (y ∷ ys)))) 1 (off st₀ + length (table_bytes 2 (rest p t (num st₀) (y ∷ ys))))) h.state
-              ∙ again-stored st₀ _ _ _ _;
+              e ∙ ap₂ (λ (α β : ℕ). with_off (with_num st α) β) (omega (arith, m, more-count p t (num st₀) y ys c)) (omega (arith, o, p₁.end, p₂.end, ap length (more_bytes p t (num st₀) y ys c), length-append (table_bytes 2 (rest p t (num st₀) ys)) (node_bytes 2 y ++ node_bytes 2 (own p t (num st₀) ys)), length-append (node_bytes 2 y) (node_bytes 2 (own p t (num st₀) ys))))
+              ∙ ap (λ (z : State). with_off (with_num z (num st₀ + length (rest p t (num st₀) (y ∷ ys)))) (off st₀ + length (table_bytes 2 (rest p t (num st₀) (y ∷ ys))))) h.state;
           room =
               run-then d₀ (off st₀) (table_bytes 2 (rest p t (num st₀) ys)) (node_bytes 2 y ++ node_bytes 2 (own p t (num st₀) ys)) (off st) d d₂ o h.room
               (run-then d (off st) (node_bytes 2 y) (node_bytes 2 (own p t (num st₀) ys)) x d₁ d₂ p₁.end p₁.room p₂.room)
               ∙ ap (overlay d₀ (off st₀)) (sym (more_bytes p t (num st₀) y ys c));
         })
 
-pub finish : (b s : List ℕ) (f k i : ℕ) (st₀ d₀ : List ℕ) (j : ℕ) (st d : List ℕ) → Turning b s f k i st₀ d₀ j st d → j ≤ k
+pub finish : (b s : List ℕ) (f k i : ℕ) (st₀ : State) (d₀ : List ℕ) (j : ℕ) (st : State) (d : List ℕ) → Turning b s f k i st₀ d₀ j st d → j ≤ k
     → (ts : List Node) (p : ℕ) (t : Node) → Summands b s f k ts → i ≡ k + length ts → SumsPut p t ts st₀ st d₀ d
 finish b s f k i st₀ d₀ j st d w g ts p t a l =
     let z : j - k ≡ 0 = omega arith in
@@ -270,36 +261,31 @@ finish b s f k i st₀ d₀ j st d w g ts p t a l =
 
 -- ---- the sum with its own record, or what stands for none
 
-pub whole_sum : (b s : List ℕ) (f k i o w spot n r : ℕ) (st st₁ st₂ d d₁ d₂ : List ℕ) → length st ≡ 3
+pub whole_sum : (b s : List ℕ) (f k i o w spot n r : ℕ) (st st₁ st₂ : State) (d d₁ d₂ : List ℕ)
     → ((ts : List Node) (p : ℕ) (t : Node) → Summands b s f k ts → i ≡ k + length ts → SumsPut p t ts st st₁ d d₁)
-    → n ≡ num st₁ → spot ≡ spot_of o (off st₁) → st₂ ≡ set st₁ 1 (next_of o (off st₁) w)
+    → n ≡ num st₁ → spot ≡ spot_of o (off st₁) → st₂ ≡ with_off st₁ (next_of o (off st₁) w)
     → ((ts : List Node) (p m : ℕ) (t : Node) → Summands b s f k ts → i ≡ k + length ts → n ≡ m + length (summed p t m ts).more → Puts (node_bytes 2 (summed p t m ts).self) spot d₁ d₂ r)
     → (ts : List Node) (p : ℕ) (t : Node) → Summands b s f k ts → i ≡ k + length ts → SumPut p t ts o w st st₂ d d₂
-whole_sum b s f k i o w spot n r st st₁ st₂ d d₁ d₂ h u en eo e v ts p t a l =
+whole_sum b s f k i o w spot n r st st₁ st₂ d d₁ d₂ u en eo e v ts p t a l =
     let q : SumsPut p t ts st st₁ d d₁ = u ts p t a l in
-    let two : (num (set (set st 0 (num st + length (rest p t (num st) ts))) 1 (off st + length (table_bytes 2 (rest p t (num st) ts)))) ≡ num st + length (rest p t (num st) ts)) × (off (set (set st 0 (num st + length (rest p t (num st) ts))) 1 (off st + length (table_bytes 2 (rest p t (num st) ts)))) ≡ off st + length (table_bytes 2 (rest p t (num st) ts))) × (ers (set (set st 0 (num st + length (rest p t (num st) ts))) 1 (off st + length (table_bytes 2 (rest p t (num st) ts)))) ≡ ers st) = two-stored st (num st + length (rest p t (num st) ts)) (off st + length (table_bytes 2 (rest p t (num st) ts))) h in
-    let m : n ≡ num st + length (rest p t (num st) ts) = en ∙ ap num q.state ∙ two.0 in
-    let o₁ : off st₁ ≡ off st + length (table_bytes 2 (rest p t (num st) ts)) = ap off q.state ∙ two.1 in
+    let m : n ≡ num st + length (rest p t (num st) ts) = en ∙ ap num q.state in
+    let o₁ : off st₁ ≡ off st + length (table_bytes 2 (rest p t (num st) ts)) = ap off q.state in
     let z : Puts (node_bytes 2 (own p t (num st) ts)) spot d₁ d₂ r = v ts p (num st) t a l m in
     record {
-      state = e ∙ ap₂ (λ (y : List ℕ) (x : ℕ). set y 1 (next_of o x w)) q.state o₁ ∙ second-stored st _ _ _;
+      state = e ∙ ap₂ (λ (y : State) (x : ℕ). with_off y (next_of o x w)) q.state o₁;
       room = z.room ∙ ap₂ (λ (x : ℕ) (y : List ℕ). overlay y x (node_bytes 2 (own p t (num st) ts))) (eo ∙ ap (spot_of o) o₁) q.room;
     }
 
-pub no-sum : (k i o w spot tag : ℕ) (st st₁ d d₁ : List ℕ) → i ≤ k → spot ≡ spot_of o (off st) → st₁ ≡ set st 1 (next_of o (off st) w) → d₁ ≡ overlay d spot (field tag [])
+pub no-sum : (k i o w spot tag : ℕ) (st st₁ : State) (d d₁ : List ℕ) → i ≤ k → spot ≡ spot_of o (off st) → st₁ ≡ with_off st (next_of o (off st) w) → d₁ ≡ overlay d spot (field tag [])
     → (ts : List Node) (p : ℕ) (t : Node) → i ≡ k + length ts → node_bytes 2 t ≡ field tag [] → SumPut p t ts o w st st₁ d d₁
 unfolding summed
 no-sum k i o w spot tag st st₁ d d₁ h eo e g [] p t l u =
     let n : num st + 0 ≡ num st = omega arith in
     let m : off st + 0 ≡ off st = omega arith in
     record {
-      state = e ∙ rw (n, m) (ap (λ (y : List ℕ). set y 1 (next_of o (off st) w)) (sym (same_first st)));
+      state = e ∙ rw (n, m);
       room = g ∙ rw (m, overlay-none, u, eo);
     }
-  where
-    same_first : (z : List ℕ) → set z 0 (num z) ≡ z
-    same_first [] = refl
-    same_first (x ∷ z) = refl
 no-sum k i o w spot tag st st₁ d d₁ h eo e g (x ∷ ts) p t l u = absurd (omega arith)
 
 pub spot-least : (o x : ℕ) → spot_of o x ≤ o + x
@@ -314,14 +300,14 @@ pub less-room : (b s : List ℕ) (f k i x y : ℕ) → SumReady b s f k i x → 
 less-room b s f k i x y r h = record { ts = r.ts; are = r.are; notes = r.notes; rows = r.rows; room = omega (arith, r.room) }
 
 -- what `sum_or` asks for
-pub record Whole (b s : List ℕ) (f k i o w : ℕ) (st st₁ : List ℕ) : Type 0 where
+pub record Whole (b s : List ℕ) (f k i o w : ℕ) (st st₁ : State) : Type 0 where
   pub place : off st₁ + w < 2 ^ 64
   pub sum : OwnReady b s f k i (spot_of o (off st₁))
   pub two : k + 1 < i → 2 ≤ num st₁
 
-pub whole-asks : (b s : List ℕ) (f k i o w : ℕ) (st st₁ d d₁ : List ℕ) → length st ≡ 3 → k < i → SumReady b s f k i (o + off st + w + 3)
+pub whole-asks : (b s : List ℕ) (f k i o w : ℕ) (st st₁ : State) (d d₁ : List ℕ) → k < i → SumReady b s f k i (o + off st + w + 3)
     → ((ts : List Node) (p : ℕ) (t : Node) → Summands b s f k ts → i ≡ k + length ts → SumsPut p t ts st st₁ d d₁) → Whole b s f k i o w st st₁
-whole-asks b s f k i o w st st₁ d d₁ h g r u =
+whole-asks b s f k i o w st st₁ d d₁ g r u =
     record {
       place = omega (arith, size, o₁, r.room);
       sum = record { ts = ts; are = r.are; notes = r.notes; rows = r.rows; room = omega (arith, size, o₁, spot-least o (off st₁), own-length 0 (num st) n_id ts some, r.room) };
@@ -341,10 +327,10 @@ whole-asks b s f k i o w st st₁ d d₁ h g r u =
     size = sum-size 0 n_id (num st) ts some
 
     o₁ : off st₁ ≡ off st + length (table_bytes 2 (rest 0 n_id (num st) ts))
-    o₁ = ap off q.state ∙ (two-stored st (num st + length (rest 0 n_id (num st) ts)) (off st + length (table_bytes 2 (rest 0 n_id (num st) ts))) h).1
+    o₁ = ap off q.state
 
     n₁ : num st₁ ≡ num st + length (rest 0 n_id (num st) ts)
-    n₁ = ap num q.state ∙ (two-stored st (num st + length (rest 0 n_id (num st) ts)) (off st + length (table_bytes 2 (rest 0 n_id (num st) ts))) h).0
+    n₁ = ap num q.state
 
     long : (l : List Node) → 1 < length l → 2 ≤ length (rest 0 n_id (num st) l)
     long [] a = absurd (omega arith)

@@ -1,5 +1,5 @@
 -- Calls: what is put for one by what its name means, and the error where it means nothing. Assumes nothing.
-use Rattle.std.specs.Prelude.{ℕ, ◌+◌, ◌*◌, ◌^◌, ◌≤◌, ◌<◌, ◌≡◌, ◌⊎◌, true, cond, List, [], ◌∷◌, ◌++◌, eqb, length, get_or, set}
+use Rattle.std.specs.Prelude.{ℕ, ◌+◌, ◌*◌, ◌^◌, ◌≤◌, ◌<◌, ◌≡◌, ◌⊎◌, true, cond, List, [], ◌∷◌, ◌++◌, eqb, length, get_or}
 use Rattle.std.proofs.Common.{arith, sym, ap, ◌∙◌, inl, inr, append-nil}
 use Rattle.fields.specs.Number.{number}
 use Rattle.fields.specs.Field.{field}
@@ -11,11 +11,12 @@ use Rattle.rules.specs.Tails.{Tail, empty, bit, subset, parent, sibling, Call, l
 use Rattle.rules.specs.Returns.{Lone}
 use Rattle.rules.specs.Filters.{Found, nothing, argument, local, of_module, of_native}
 use Rattle.rules.specs.Outs.{Made, binds, call_out}
-use Rattle.puts.specs.State.{ers}
+use Rattle.puts.specs.declared.state.State.{State}
+use Rattle.puts.specs.State.{ers, with_ers}
 use Rattle.reads.specs.Bytes.{names_of, Fields}
 use Rattle.cells.specs.Cells.{kind_at, place_at, before_at, level_at, last_at}
 use Rattle.cells.specs.Notes.{numbers_of}
-use Rattle.finds.specs.declared.Found as Hit
+use Rattle.finds.specs.Hits as Hit
 use Rattle.finds.specs.Means.{FoundIs, undefined_kind}
 
 -- the arguments whose notes are the a rows from k on, as the parameters behind the name of row j take them
@@ -78,8 +79,8 @@ lost_errs h a f =
     cond (eqb f.kind 0) (record { what = u_filter a; home = h; place = f.at; length = f.len } ∷ [])
     (cond (eqb f.kind 1) (record { what = u_mod; home = h; place = f.at; length = f.len } ∷ []) [])
 
-pub record Failed (s : List ℕ) (f : Hit.Found) (a : ℕ) (st st' d d' : List ℕ) : Type 0 where
-  pub state : st' ≡ set st 2 (ers st + length (errs_bytes 2 (lost_errs (get_or s 3 0) a f)))
+pub record Failed (s : List ℕ) (f : Hit.Found) (a : ℕ) (st st' : State) (d d' : List ℕ) : Type 0 where
+  pub state : st' ≡ with_ers st (ers st + length (errs_bytes 2 (lost_errs (get_or s 3 0) a f)))
   pub room : d' ≡ overlay d (ers st) (errs_bytes 2 (lost_errs (get_or s 3 0) a f))
 
 -- an error of a call names a module, or a filter of a arguments

@@ -1,8 +1,8 @@
 -- Conditionals: the elses' records, from the last pair back, put together with the pairs and the last else into what the rules make of a conditional.
 -- Assumes nothing.
 use Prim.Native.Nat.{ℕ, suc, ◌+◌, ◌<◌}
-use Rattle.std.proofs.Common.{arith, sym, subst, ◌∙◌, ne_eqb, length-set}
-use Rattle.std.specs.Prelude.{◌≡◌, refl, set}
+use Rattle.std.proofs.Common.{arith, sym, subst, ◌∙◌, ne_eqb}
+use Rattle.std.specs.Prelude.{◌≡◌, refl}
 use Rattle.std.proofs.Math.Path.{ap, ap₂}
 use mathlib.Core.List.{List, [], ◌∷◌, ◌++◌, append_assoc}
 use Rattle.std.proofs.Math.ListN.{length, length-append}
@@ -17,15 +17,16 @@ use Rattle.rules.specs.Rows.{Env}
 use Rattle.rules.specs.Filters.{Top}
 use Rattle.rules.specs.Outs.{Out, slot, size, ite_out}
 use Rattle.rules.specs.Rules.{term, branches}
-use Rattle.puts.specs.State.{num, off, ers, late, start_of, spot_of, next_of, members_at, members_end, Put, Own}
+use Rattle.puts.specs.declared.state.State.{State}
+use Rattle.puts.specs.State.{num, off, ers, late, start_of, spot_of, next_of, members_at, members_end, Put, Own, with_num, with_off}
 use Rattle.puts.specs.Rooms.{table-append}
 use Rattle.cells.specs.Notes.{Pair, Pairs, pairs_of, else_of, elses_of}
 
 -- ---- what `elses` leaves: the records of the pairs but the first, the state, and the number of the first pair's else
 
-pub record Elsed (ps : List Pair) (st st' d d' : List ℕ) (r : ℕ) : Type 0 where
+pub record Elsed (ps : List Pair) (st st' : State) (d d' : List ℕ) (r : ℕ) : Type 0 where
   pub number : (p : ℕ) → r ≡ num st + length (elses_of p ps (num st))
-  pub state : (p : ℕ) → st' ≡ set (set st 0 (num st + length (elses_of p ps (num st)) + 1)) 1 (off st + length (table_bytes 2 (elses_of p ps (num st))))
+  pub state : (p : ℕ) → st' ≡ with_off (with_num st (num st + length (elses_of p ps (num st)) + 1)) (off st + length (table_bytes 2 (elses_of p ps (num st))))
   pub room : (p : ℕ) → d' ≡ overlay d (off st) (table_bytes 2 (elses_of p ps (num st)))
 
 -- ---- the rule's conditional, flat: what the pairs contain, what the last else contains, its own record, the elses' records
@@ -148,13 +149,6 @@ ite-flat c p q t u (b_pair k v w bs) e n r =
 
 -- ---- the last else, whose own record stands behind what it contains, and the elses after it, are put one after the other
 
--- a state of three numbers after the first two are stored
-pub two-stored : (st : List ℕ) (x y : ℕ) → length st ≡ 3 → (num (set (set st 0 x) 1 y) ≡ x) × (off (set (set st 0 x) 1 y) ≡ y) × (ers (set (set st 0 x) 1 y) ≡ ers st)
-two-stored [] x y h = omega arith
-two-stored (a ∷ []) x y h = omega arith
-two-stored (a ∷ b ∷ []) x y h = omega arith
-two-stored (a ∷ b ∷ c ∷ l) x y h = (refl, refl, refl)
-
 late-start : (m w : ℕ) → m < late → start_of late m w ≡ m
 unfolding start_of
 late-start m w h = simp (ne_eqb late m (λ e. omega arith))
@@ -167,15 +161,14 @@ late-next : (x w : ℕ) → next_of late x w ≡ x + w
 unfolding next_of
 late-next x w = refl
 
-pub else-put : (q : Out) (ps : List Pair) (p : ℕ) (st st₁ st₂ d d₁ d₂ : List ℕ) (r : ℕ)
-    → length st₁ ≡ 3 → off st < late → Own q late st st₁ d d₁ → Elsed ps st₁ st₂ d₁ d₂ r
+pub else-put : (q : Out) (ps : List Pair) (p : ℕ) (st st₁ st₂ : State) (d d₁ d₂ : List ℕ) (r : ℕ)
+    → off st < late → Own q late st st₁ d d₁ → Elsed ps st₁ st₂ d₁ d₂ r
     → Put (q.more ++ (q.self ∷ elses_of p ps (num st₁))) q.errs st st₂ d d₂
-else-put q ps p st st₁ st₂ d d₁ d₂ r l h o z =
+else-put q ps p st st₁ st₂ d d₁ d₂ r h o z =
     record {
-      nums = ap num (z.state p) ∙ t.0 ∙ omega (arith, o.nums, length-append q.more (q.self ∷ rs));
-      offs = ap off (z.state p) ∙ t.1 ∙ omega (arith, end, length-append (rec_bytes 2 q.self) (table_bytes 2 rs), length-append (table_bytes 2 q.more) (rec_bytes 2 q.self ++ table_bytes 2 rs), ap length (table-append q.more (q.self ∷ rs)));
-      errs = ap ers (z.state p) ∙ t.2 ∙ o.errs;
-      same = ap length (z.state p) ∙ length-set (set st₁ 0 (num st₁ + length rs + 1)) 1 (off st₁ + length (table_bytes 2 rs)) ∙ length-set st₁ 0 (num st₁ + length rs + 1) ∙ o.same;
+      nums = ap num (z.state p) ∙ omega (arith, o.nums, length-append q.more (q.self ∷ rs));
+      offs = ap off (z.state p) ∙ omega (arith, end, length-append (rec_bytes 2 q.self) (table_bytes 2 rs), length-append (table_bytes 2 q.more) (rec_bytes 2 q.self ++ table_bytes 2 rs), ap length (table-append q.more (q.self ∷ rs)));
+      errs = ap ers (z.state p) ∙ o.errs;
       size = ap length (z.room p) ∙ length-overlay d₁ (off st₁) (table_bytes 2 rs) ∙ o.size;
       table = λ g. z.room p ∙ rw (o.table g, start, late-spot, end) (put d) ∙ ap (overlay d (off st)) (sym (table-append q.more (q.self ∷ rs)));
       errors = λ g. z.room p ∙ overlay-out d₁ (off st₁) (table_bytes 2 rs) (omega (arith, end, o.size)) ∙ o.errors g (omega arith);
@@ -186,9 +179,6 @@ else-put q ps p st st₁ st₂ d d₁ d₂ r l h o z =
 
     w : ℕ
     w = length (rec_bytes 2 q.self)
-
-    t : (num (set (set st₁ 0 (num st₁ + length rs + 1)) 1 (off st₁ + length (table_bytes 2 rs))) ≡ num st₁ + length rs + 1) × (off (set (set st₁ 0 (num st₁ + length rs + 1)) 1 (off st₁ + length (table_bytes 2 rs))) ≡ off st₁ + length (table_bytes 2 rs)) × (ers (set (set st₁ 0 (num st₁ + length rs + 1)) 1 (off st₁ + length (table_bytes 2 rs))) ≡ ers st₁)
-    t = two-stored st₁ (num st₁ + length rs + 1) (off st₁ + length (table_bytes 2 rs)) l
 
     start : members_at q late st ≡ off st
     start = late-start (off st) w h

@@ -1,11 +1,12 @@
 -- Sums: what is put for the parts of a string and the entries of an object, by their notes. Assumes nothing.
-use Rattle.std.specs.Prelude.{ℕ, suc, ◌+◌, ◌*◌, ◌^◌, ◌≤◌, ◌<◌, ◌≡◌, refl, ◌⊎◌, List, [], ◌∷◌, length, set}
+use Rattle.std.specs.Prelude.{ℕ, suc, ◌+◌, ◌*◌, ◌^◌, ◌≤◌, ◌<◌, ◌≡◌, refl, ◌⊎◌, List, [], ◌∷◌, length}
 use Rattle.std.proofs.Common.{arith, inl, inr}
 use Rattle.fields.specs.Room.{overlay}
 use Rattle.tree.specs.Tree.{StrPart, StrParts, s_nil, s_cons, Entries, es_nil, es_cons}
 use Rattle.rules.specs.Table.{Node, n_id, n_obj_single}
 use Rattle.rules.specs.Listing.{node_bytes, table_bytes}
-use Rattle.puts.specs.State.{num, off, spot_of, next_of}
+use Rattle.puts.specs.declared.state.State.{State}
+use Rattle.puts.specs.State.{num, off, spot_of, next_of, with_num, with_off}
 use Rattle.reads.specs.Shapes.{StrPartAt}
 use Rattle.cells.specs.Cells.{number_at, last_at, kind_at}
 use Rattle.cells.specs.Notes.{string_node, string_nodes, entry_nodes, summed}
@@ -69,12 +70,12 @@ entry-notes s (es_cons q t v es) k h = (h k (omega arith) (omega arith), entry-n
 
 -- ---- what `sums` leaves: the records of the sum from the next offset on, all but its own
 
-pub record SumsPut (p : ℕ) (t : Node) (ts : List Node) (st st' d d' : List ℕ) : Type 0 where
-  pub state : st' ≡ set (set st 0 (num st + length (summed p t (num st) ts).more)) 1 (off st + length (table_bytes 2 (summed p t (num st) ts).more))
+pub record SumsPut (p : ℕ) (t : Node) (ts : List Node) (st st' : State) (d d' : List ℕ) : Type 0 where
+  pub state : st' ≡ with_off (with_num st (num st + length (summed p t (num st) ts).more)) (off st + length (table_bytes 2 (summed p t (num st) ts).more))
   pub room : d' ≡ overlay d (off st) (table_bytes 2 (summed p t (num st) ts).more)
 
 -- ---- what `sum_or` leaves: the records of the sum from the next offset on, and its own where it belongs. t is what stands for none, p any place
 
-pub record SumPut (p : ℕ) (t : Node) (ts : List Node) (o w : ℕ) (st st' d d' : List ℕ) : Type 0 where
-  pub state : st' ≡ set (set st 0 (num st + length (summed p t (num st) ts).more)) 1 (next_of o (off st + length (table_bytes 2 (summed p t (num st) ts).more)) w)
+pub record SumPut (p : ℕ) (t : Node) (ts : List Node) (o w : ℕ) (st st' : State) (d d' : List ℕ) : Type 0 where
+  pub state : st' ≡ with_off (with_num st (num st + length (summed p t (num st) ts).more)) (next_of o (off st + length (table_bytes 2 (summed p t (num st) ts).more)) w)
   pub room : d' ≡ overlay (overlay d (off st) (table_bytes 2 (summed p t (num st) ts).more)) (spot_of o (off st + length (table_bytes 2 (summed p t (num st) ts).more))) (node_bytes 2 (summed p t (num st) ts).self)

@@ -2,7 +2,7 @@
 
 #![tactic(auto)]
 
-ghost use Rattle.std.specs.Prelude.{◌≡◌, true, false, ◌⊎◌, List, [], ◌∷◌, ◌++◌, ℕ, ◌+◌, ◌-◌, ◌*◌, ◌^◌, ◌≤◌, ◌<◌, length, get_or};
+ghost use Rattle.std.specs.Prelude.{◌≡◌, true, false, ◌⊎◌, List, [], ◌∷◌, ◌++◌, ℕ, ◌+◌, ◌-◌, ◌*◌, ◌^◌, ◌≤◌, ◌<◌, length, get_or, Some};
 ghost use Rattle.std.proofs.Math.Option.{some};
 ghost use Rattle.fields.specs.Number.{number};
 ghost use Rattle.fields.specs.Field.{field};
@@ -11,39 +11,37 @@ ghost use Rattle.tree.specs.Rose.{rnil, end_of, Row};
 ghost use Rattle.tree.specs.Tree.{Pattern, Part, Parts, StrPart, operator};
 ghost use Rattle.tree.specs.Form.{f_parts};
 ghost use Rattle.tree.specs.Leaf.{is_operator};
-ghost use Rattle.rules.specs.Table.{Node, n_ite, n_pipe, n_path, index, n_native, n_call_def, kind_number};
-ghost use Rattle.rules.specs.Listing.{flag, node_bytes, fold_bytes, opt_number, steps_bytes, arg_list};
+ghost use Rattle.rules.specs.Table.{Node, n_ite, n_pipe, n_path, index, n_native};
+ghost use Rattle.rules.specs.Listing.{node_bytes, fold_bytes, opt_number, steps_bytes, arg_list};
 ghost use Rattle.rules.specs.Outs.{binary};
 ghost use Rattle.reads.specs.Bytes.{PatternAt};
 ghost use Rattle.reads.specs.Widths.{pat_width, parts_width, fold_width};
+ghost use Rattle.reads.specs.Kinds.{fold_number};
 ghost use Rattle.reads.specs.Shapes.{PartAt, StrPartAt};
+ghost use Rattle.puts.specs.Calls.{call_number};
 ghost use Rattle.puts.specs.State.{num, off, ers};
-ghost use Rattle.cells.specs.Cells.{number_at, last_at, level_at, before_at};
+ghost use Rattle.cells.specs.Cells.{number_at, last_at, before_at};
 ghost use Rattle.cells.specs.Notes.{pat_at, steps_at, pairs_at, string_node, summed};
+ghost use Rattle.finds.specs.Numbers.{numbers};
 ghost use Rattle.records.specs.Elses.{Elsed};
 ghost use Rattle.records.specs.Operators.{op_tag, op_choice};
 ghost use Rattle.records.specs.Patterns.{PatReady, PatPut, HoldsPat, folding_of, fold_node, HoldsFold};
-ghost use Rattle.records.specs.Steps.{given, Puts, PartPut, PartsReady, PathReady};
+ghost use Rattle.records.specs.Bounds.{bound_of};
+ghost use Rattle.records.specs.Steps.{Puts, PartPut, PartsReady, PathReady};
 ghost use Rattle.records.specs.Sums.{SummandIs, Summands, SumReady, OwnReady, SumsPut, SumPut};
-ghost use Rattle.records.specs.Calls.{args_at, def_bytes, ArgsReady, jump_of, JumpReady, CallReady, CallPut, Failed};
+ghost use Rattle.records.specs.Calls.{args_at, def_bytes, ArgsReady, CallReady, CallPut, Failed};
 
-use cells::{last, number};
+use cells::{RowKind, last, number};
+use finds::Meaning;
+use puts::calls;
 use puts::put::{
     put_bare, put_char, put_error, put_filter_error, put_head, put_mid, put_number, put_one,
     put_text, put_three, put_two, put1,
 };
-use puts::{calls, state};
-use reads::bytes::{end_of, members};
+use puts::state::State;
+use reads::bytes::{end_of, fields, members};
+use reads::width::FoldKind;
 use reads::{bytes, width};
-
-fn flag(t: bool) -> u8
-    ensures { result ≡ flag t }
-{
-    if t {
-        return 1;
-    }
-    0
-}
 
 // ---- conditionals
 
@@ -56,17 +54,15 @@ pub fn put_pair(rows: &[u64], j: usize, n: usize, out: &mut [u8], o: usize)
 }
 
 // "then else numbers from the last pair back": the pairs' notes are rows k up to i. The number of the first pair's else.
-pub fn elses(rows: &[u64], k: usize, i: usize, st: &mut [usize; 3], out: &mut [u8]) -> usize
-    requires { (length st.old ≡ 3) × (k ≤ i) × (4 * i ≤ length rows.now) × (num st.old + (i - k) + 1 < 2 ^ 64) × (off st.old + 9 * (i - k) < 2 ^ 64) }
+pub fn elses(rows: &[u64], k: usize, i: usize, st: &mut State, out: &mut [u8]) -> usize
+    requires { (k ≤ i) × (4 * i ≤ length rows.now) × (num st.old + (i - k) + 1 < 2 ^ 64) × (off st.old + 9 * (i - k) < 2 ^ 64) }
     ensures { Elsed (pairs_at rows.now k (i - k)) st.old st.new out.old out.new result }
 {
-    let mut j = i;
-    while k + 1 < j {
-        j -= 1;
-        let n = st[0];
-        put_pair(rows, j, n, out, state::insert(st, 9));
+    for j in (k + 1..i).rev() {
+        let n = st.terms;
+        put_pair(rows, j, n, out, st.insert(9));
     }
-    state::take_number(st)
+    st.take_number()
 }
 
 // ---- operators
@@ -130,13 +126,11 @@ fn put_pattern(tree: &[u8], q: usize, rows: &[u64], k: usize, out: &mut [u8], o:
     let z = end_of(tree, q);
     put1(out, o, 2);
     put_number(out, o + 1, members(tree, q + 3, z));
-    let mut p = q + 3;
     let mut x = o + 3;
     let mut j = k + 1;
-    while p < z {
+    for p in fields(tree, q + 3, z) {
         put_number(out, x, number(rows, j));
         let s = put_pattern(tree, bytes::sub_pattern(tree, tag, p), rows, j, out, x + 2);
-        p = end_of(tree, p);
         x = s.o;
         j = s.k;
     }
@@ -163,15 +157,14 @@ pub fn put_piped(
     put_number(out, s.o, b);
 }
 
-// What a fold is: 0, 1, or 2 with the number of its projection.
-fn put_folding(out: &mut [u8], o: usize, kind: u8, n: usize)
-    requires { (kind < 3) × ((kind ≡ 2) → (o + 3 < 2 ^ 64)) }
-    ensures { out.new ≡ overlay out.old o (fold_bytes 2 (folding_of kind n)) }
+// What a fold is, with the number of its projection if it has one.
+fn put_folding(out: &mut [u8], o: usize, kind: FoldKind, n: usize)
+    requires { (fold_number (Some kind) ≡ 2) → (o + 3 < 2 ^ 64) }
+    ensures { out.new ≡ overlay out.old o (fold_bytes 2 (folding_of (fold_number (Some kind)) n)) }
 {
-    put1(out, o, kind);
-    if kind == 2 {
+    put1(out, o, kind as u8);
+    if let FoldKind::Projected = kind {
         put_number(out, o + 1, n);
-        return;
     }
 }
 
@@ -188,33 +181,33 @@ pub fn put_fold(
     c: usize,
     d: usize,
 )
-    requires { HoldsFold tree.now rows.now f.q k o f.kind f.w }
-    ensures { (x : Pattern) → PatternAt tree.now x f.q → f.w ≡ fold_width f.kind (pat_width x) → out.new ≡ overlay out.old o (node_bytes 2 (fold_node f.kind (pat_at rows.now x k) a b c d)) }
+    requires { HoldsFold tree.now rows.now f.q k o (fold_number f.kind) f.w }
+    ensures { (x : Pattern) → PatternAt tree.now x f.q → f.w ≡ fold_width (fold_number f.kind) (pat_width x) → out.new ≡ overlay out.old o (node_bytes 2 (fold_node (fold_number f.kind) (pat_at rows.now x k) a b c d)) }
 {
-    if f.kind == 3 {
+    let Some(kind) = f.kind else {
         put_bare(out, o, 0x50);
         return;
-    }
+    };
     put_head(out, o, 0x6A, f.w - 3, a);
     let s = put_pattern(tree, f.q, rows, k, out, o + 5);
     put_number(out, s.o, b);
     put_number(out, s.o + 2, c);
-    put_folding(out, s.o + 4, f.kind, d);
+    put_folding(out, s.o + 4, kind, d);
 }
 
 // ---- paths
 
-fn put_bound(out: &mut [u8], o: usize, on: bool, a: usize) -> usize
+fn put_bound(out: &mut [u8], o: usize, a: Option<usize>) -> usize
     requires { o + 3 < 2 ^ 64 }
-    ensures { Puts (opt_number 2 (given on a)) o out.old out.new result }
+    ensures { Puts (opt_number 2 (bound_of a)) o out.old out.new result }
 {
-    if on {
-        put1(out, o, 1);
-        put_number(out, o + 1, a);
-        return o + 3;
-    }
-    put1(out, o, 0);
-    o + 1
+    let Some(a) = a else {
+        put1(out, o, 0);
+        return o + 1;
+    };
+    put1(out, o, 1);
+    put_number(out, o + 1, a);
+    o + 3
 }
 
 fn put_range(tree: &[u8], q: usize, a: usize, b: usize, out: &mut [u8], o: usize) -> usize
@@ -225,9 +218,9 @@ fn put_range(tree: &[u8], q: usize, a: usize, b: usize, out: &mut [u8], o: usize
     let u = bytes::past(tree, q + 3, z, 0xC1);
     let v = bytes::past(tree, u, z, 0xC2);
     put1(out, o, 1);
-    let s = put_bound(out, o + 1, q + 3 < u, a);
-    let t = put_bound(out, s, u < v, b);
-    put1(out, t, flag(v < z));
+    let s = put_bound(out, o + 1, (q + 3 < u).then_some(a));
+    let t = put_bound(out, s, (u < v).then_some(b));
+    put1(out, t, u8::from(v < z));
     t + 1
 }
 
@@ -241,7 +234,7 @@ fn put_part(tree: &[u8], q: usize, a: usize, b: usize, out: &mut [u8], o: usize)
     }
     put1(out, o, 0);
     put_number(out, o + 1, a);
-    put1(out, o + 3, flag(end_of(tree, q + 3) < end_of(tree, q)));
+    put1(out, o + 3, u8::from(end_of(tree, q + 3) < end_of(tree, q)));
     o + 4
 }
 
@@ -250,12 +243,10 @@ fn put_parts(tree: &[u8], q: usize, z: usize, rows: &[u64], k: usize, out: &mut 
     requires { PartsReady tree.now rows.now q z k o }
     ensures { (xs : Parts) → Row tree.now (f_parts xs rnil) q z → out.new ≡ overlay out.old o (steps_bytes 2 (steps_at rows.now xs k)) }
 {
-    let mut p = q;
     let mut j = k;
     let mut x = o;
-    while p < z {
+    for p in fields(tree, q, z) {
         x = put_part(tree, p, number(rows, j), last(rows, j) as usize, out, x);
-        p = end_of(tree, p);
         j += 1;
     }
 }
@@ -322,7 +313,7 @@ fn put_summand(tree: &[u8], rows: &[u64], j: usize, f: usize, out: &mut [u8], o:
 {
     let a = number(rows, j);
     let b = last(rows, j) as usize;
-    if cells::kind(rows, j) == cells::KEPT {
+    if let RowKind::Kept = cells::kind(rows, j) {
         put_two(out, o, 0x58, a, b);
         return o + 7;
     }
@@ -351,25 +342,15 @@ fn put_sum(
 }
 
 // From the last row but one back: the summand, and the sum of those after it.
-fn sums(
-    tree: &[u8],
-    rows: &[u64],
-    k: usize,
-    i: usize,
-    f: usize,
-    st: &mut [usize; 3],
-    out: &mut [u8],
-)
-    requires { (length st.old ≡ 3) × (k < i) × SumReady tree.now rows.now f k i (off st.old) × (num st.old + 2 * (i - k) < 2 ^ 64) }
+fn sums(tree: &[u8], rows: &[u64], k: usize, i: usize, f: usize, st: &mut State, out: &mut [u8])
+    requires { (k < i) × SumReady tree.now rows.now f k i (off st.old) × (num st.old + 2 * (i - k) < 2 ^ 64) }
     ensures { (ts : List Node) (p : ℕ) (t : Node) → Summands tree.now rows.now f k ts → i ≡ k + length ts → SumsPut p t ts st.old st.new out.old out.new }
 {
-    let mut j = i - 1;
-    while k < j {
-        let n = st[0];
-        let x = put_summand(tree, rows, j - 1, f, out, st[1]);
-        st[1] = put_sum(tree, rows, j, i, f, n, out, x);
-        st[0] = n + 2;
-        j -= 1;
+    for j in (k + 1..i).rev() {
+        let n = st.terms;
+        let x = put_summand(tree, rows, j - 1, f, out, st.end);
+        st.end = put_sum(tree, rows, j, i, f, n, out, x);
+        st.terms = n + 2;
     }
 }
 
@@ -382,21 +363,21 @@ pub fn sum_or(
     i: usize,
     f: usize,
     tag: u8,
-    st: &mut [usize; 3],
+    st: &mut State,
     out: &mut [u8],
     o: usize,
     w: usize,
 )
-    requires { (length st.old ≡ 3) × (k ≤ i) × SumReady tree.now rows.now f k i (o + off st.old + w + 3) × (num st.old + 2 * (i - k) < 2 ^ 64) }
+    requires { (k ≤ i) × SumReady tree.now rows.now f k i (o + off st.old + w + 3) × (num st.old + 2 * (i - k) < 2 ^ 64) }
     ensures { (ts : List Node) (p : ℕ) (t : Node) → Summands tree.now rows.now f k ts → i ≡ k + length ts → node_bytes 2 t ≡ field tag [] → SumPut p t ts o w st.old st.new out.old out.new }
 {
     if k < i {
         sums(tree, rows, k, i, f, st, out);
-        let n = st[0];
-        put_sum(tree, rows, k, i, f, n, out, state::place(st, o, w));
+        let n = st.terms;
+        put_sum(tree, rows, k, i, f, n, out, st.place(o, w));
         return;
     }
-    put_bare(out, state::place(st, o, w), tag);
+    put_bare(out, st.place(o, w), tag);
 }
 
 // ---- calls
@@ -408,14 +389,12 @@ fn put_args(tree: &[u8], rows: &[u64], j: usize, k: usize, a: usize, out: &mut [
 {
     put_number(out, o, a);
     let mut p = end_of(tree, cells::place(rows, j));
-    let mut i = 0;
     let mut x = o + 2;
-    while i < a {
-        put1(out, x, flag(!bytes::is_var(tree, p)));
+    for i in 0..a {
+        put1(out, x, u8::from(!bytes::is_var(tree, p)));
         put_number(out, x + 1, number(rows, k + i));
         p = end_of(tree, p);
         x += 3;
-        i += 1;
     }
 }
 
@@ -427,6 +406,7 @@ fn put_native(tree: &[u8], rows: &[u64], j: usize, k: usize, a: usize, out: &mut
     put_args(tree, rows, j, k, a, out, o + 5);
 }
 
+// A call of the definition of row j, by `jump`. What it returns.
 fn put_def(
     tree: &[u8],
     rows: &[u64],
@@ -435,104 +415,71 @@ fn put_def(
     a: usize,
     out: &mut [u8],
     o: usize,
-    call: calls::CallType,
-)
+    jump: calls::Jump,
+) -> u64
     requires { ArgsReady tree.now rows.now j k a o 10 × (before_at rows.now j ≤ get_or rows.now 1 0) }
-    ensures { out.new ≡ overlay out.old o (def_bytes (number_at rows.now j) (args_at tree.now rows.now j k a) (get_or rows.now 1 0 - before_at rows.now j) call.number) }
+    ensures { (out.new ≡ overlay out.old o (def_bytes (number_at rows.now j) (args_at tree.now rows.now j k a) (get_or rows.now 1 0 - before_at rows.now j) (call_number jump.call))) × (result ≡ jump.tail) }
 {
     put_head(out, o, 0x5A, 7 + 3 * a, number(rows, j));
     put_args(tree, rows, j, k, a, out, o + 5);
     put_number(out, o + 7 + 3 * a, cells::skip(rows, j));
-    put1(out, o + 9 + 3 * a, call.number);
-}
-
-// How the definition of row j is called.
-fn jump(rows: &[u64], kind: u8, j: usize, allowed: u64) -> calls::Jump
-    requires { JumpReady rows.now kind j }
-    ensures { (result.call.number ≡ kind_number (jump_of kind (level_at rows.now j) (last_at rows.now j) allowed).kind) × (result.tail ≡ (jump_of kind (level_at rows.now j) (last_at rows.now j) allowed).tail) }
-{
-    match kind {
-        3 => calls::parent(cells::level(rows, j), allowed),
-        4 => calls::sibling(cells::level(rows, j), last(rows, j), allowed),
-        _ => calls::outer(last(rows, j)),
-    }
-}
-
-fn put_jump(
-    tree: &[u8],
-    rows: &[u64],
-    kind: u8,
-    j: usize,
-    k: usize,
-    a: usize,
-    out: &mut [u8],
-    o: usize,
-    allowed: u64,
-) -> u64
-    requires { ArgsReady tree.now rows.now j k a o 10 × (before_at rows.now j ≤ get_or rows.now 1 0) × JumpReady rows.now kind j }
-    ensures { (out.new ≡ overlay out.old o (node_bytes 2 (n_call_def (number_at rows.now j) (args_at tree.now rows.now j k a) (get_or rows.now 1 0 - before_at rows.now j) (jump_of kind (level_at rows.now j) (last_at rows.now j) allowed).kind))) × (result ≡ (jump_of kind (level_at rows.now j) (last_at rows.now j) allowed).tail) }
-{
-    let u = jump(rows, kind, j, allowed);
-    put_def(tree, rows, j, k, a, out, o, u.call);
-    u.tail
+    put1(out, o + 9 + 3 * a, jump.call.number());
+    jump.tail
 }
 
 // A call with a arguments, whose numbers are in the notes from row k on. What it returns.
 pub fn put_call(
     tree: &[u8],
     rows: &[u64],
-    f: finds::Found,
+    f: Meaning,
     k: usize,
     a: usize,
     out: &mut [u8],
     o: usize,
     allowed: u64,
 ) -> u64
-    requires { CallReady tree.now rows.now f k a o }
-    ensures { CallPut tree.now rows.now f k a o out.old out.new allowed result }
+    requires { CallReady tree.now rows.now (numbers f) k a o }
+    ensures { CallPut tree.now rows.now (numbers f) k a o out.old out.new allowed result }
 {
-    let kind = f.kind;
-    let j = f.j;
-    match kind {
-        0 | 1 => {
+    match f {
+        Meaning::NoFilter { .. } | Meaning::NoModule { .. } => {
             put_bare(out, o, 0x50);
             0
         }
-        2 => {
+        Meaning::Argument(j) => {
             put_one(out, o, 0x59, cells::index(rows, j));
             0
         }
-        6 => {
+        Meaning::Native(j) => {
             put_native(tree, rows, j, k, a, out, o);
             0
         }
-        _ => put_jump(tree, rows, kind, j, k, a, out, o, allowed),
+        Meaning::Parent(j) => {
+            let jump = calls::parent(cells::level(rows, j), allowed);
+            put_def(tree, rows, j, k, a, out, o, jump)
+        }
+        Meaning::Sibling(j) => {
+            let jump = calls::sibling(cells::level(rows, j), last(rows, j), allowed);
+            put_def(tree, rows, j, k, a, out, o, jump)
+        }
+        Meaning::Outer(j) => {
+            let jump = calls::outer(last(rows, j));
+            put_def(tree, rows, j, k, a, out, o, jump)
+        }
     }
 }
 
 // The error of a call that means nothing.
-pub fn fail(rows: &[u64], f: finds::Found, a: usize, st: &mut [usize; 3], out: &mut [u8])
+pub fn fail(rows: &[u64], f: Meaning, a: usize, st: &mut State, out: &mut [u8])
     requires { (4 ≤ length rows.now) × (ers st.old + 11 < 2 ^ 64) }
-    ensures { Failed rows.now f a st.old st.new out.old out.new }
+    ensures { Failed rows.now (numbers f) a st.old st.new out.old out.new }
 {
-    let kind = f.kind;
-    match kind {
-        0 => put_filter_error(
-            out,
-            state::insert_error(st, 11),
-            rows[cells::HOME] as usize,
-            f.at,
-            f.len,
-            a,
-        ),
-        1 => put_error(
-            out,
-            state::insert_error(st, 9),
-            0x28,
-            rows[cells::HOME] as usize,
-            f.at,
-            f.len,
-        ),
+    let home = rows[cells::HOME] as usize;
+    match f {
+        Meaning::NoFilter { at, len } => {
+            put_filter_error(out, st.insert_error(11), home, at, len, a)
+        }
+        Meaning::NoModule { at, len } => { put_error(out, st.insert_error(9), 0x28, home, at, len) }
         _ => {}
     }
 }

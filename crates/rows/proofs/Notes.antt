@@ -30,19 +30,6 @@ use Rattle.rows.proofs.Patterns.{push-append}
 abbrev pub bound_note : List ℕ → List ℕ → ℕ → List ℕ
 bound_note b s j = cond (eqb (last_at s j) 0) s (bound_as (text_of b (last_at s j)) s j 0 (last_at s j) (number_at s j))
 
-pub note-none : (b s : List ℕ) (j q : ℕ) → q ≡ last_at s j → q ≡ 0 → s ≡ bound_note b s j
-note-none b s j q e f = sym (simp (eq-eqb (last_at s j) 0 (sym e ∙ f)))
-
-pub note-some : (b s s' : List ℕ) (j q n : ℕ) → q ≡ last_at s j → (q ≡ 0 → ⊥) → n ≡ number_at s j → s' ≡ bound_as (text_of b q) s j 0 q n → s' ≡ bound_note b s j
-note-some b s s' j q n e f en es =
-    let g : (last_at s j ≡ 0 → ⊥) = λ z. f (e ∙ z) in
-    es ∙ ap₂ (λ (x : ℕ) (y : ℕ). bound_as (text_of b x) s j 0 x y) e en ∙ sym (simp (ne_eqb (last_at s j) 0 g))
-
-pub note-ready : (b s : List ℕ) (j q n : ℕ) → length b ≤ 32768 → get_or s 1 0 < 65536 → Room s j → ((last_at s j ≡ 0 → ⊥) → end_of b (last_at s j) ≤ length b)
-    → q ≡ last_at s j → (q ≡ 0 → ⊥) → n ≡ number_at s j → Room s j × (end_of b q ≤ length b) × (length b ≤ 32768) × (0 < 3) × (n < 65536) × (get_or s 1 0 < 65536)
-note-ready b s j q n small cnt room fit e f en =
-    (room, subst (λ (x : ℕ). end_of b x ≤ length b) (sym e) (fit (λ z. f (e ∙ z))), small, omega arith, omega arith, cnt)
-
 -- ---- the variables, from their places
 
 -- 0 is no variable's

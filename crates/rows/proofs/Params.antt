@@ -19,12 +19,6 @@ use Rattle.rows.specs.Opened.{opened-none, opened-then, opened-bound, opened-par
 
 -- ---- kinds
 
-pub kind-yes : (t u : Bool) → t ≡ u → t ≡ true → ◌≡◌ {A = ℕ} 0 (cond u 0 2)
-kind-yes t u e f = ap (λ (v : Bool). cond v 0 2) (sym f ∙ e)
-
-pub kind-no : (t u : Bool) → t ≡ u → t ≡ false → ◌≡◌ {A = ℕ} 2 (cond u 0 2)
-kind-no t u e f = ap (λ (v : Bool). cond v 0 2) (sym f ∙ e)
-
 kind-small : (t : Bool) → cond t 0 2 < 3
 kind-small true = omega arith
 kind-small false = omega arith
@@ -173,7 +167,3 @@ enter-params b s k q z a g name fs room ez = (pushing-later b s k q z g (omega a
 
 pub enter-level : (b s : List ℕ) (k q a : ℕ) → Pushing b s k q → 4 * (k + a + 1) ≤ length s → get_or s 2 0 < 16384
 enter-level b s k q a g room = (counts-small g.view b s k g.seen (omega arith)).1
-
-pub enter-length : (b s s₁ s₂ : List ℕ) (k q z a n c l v : ℕ) → Params b s s₁ k z a → s₂ ≡ pushed (text_of b q) s₁ (k + a) 3 q a n c l 0 → length (set s₂ 2 v) ≡ length s
-enter-length b s s₁ s₂ k q z a n c l v p es =
-    length-set s₂ 2 v ∙ ap (λ (x : List ℕ). length x) es ∙ length-pushed (text_of b q) s₁ (k + a) 3 q a n c l 0 ∙ p.1.same

@@ -10,20 +10,21 @@ ghost use Rattle.rules.specs.Rows.{params, inside, push_vars};
 ghost use Rattle.rules.specs.Outs.{vars};
 ghost use Rattle.reads.specs.Bytes.{name_at, names_of, Fields, PatternAt};
 ghost use Rattle.cells.specs.Cells.{number_at, kind_at, last_at, bound_as, Opened, Room, Pushing, View, Seen, env_of};
+ghost use Rattle.cells.specs.Kinds.{kind_number};
 ghost use Rattle.cells.specs.Notes.{lasts_of, places_in, pat_at};
 
-use cells::{ARG, ENCLOSE, IN_VIEW, PARENT, VAR, bind, last, number, push};
+use cells::{Binding, ENCLOSE, IN_VIEW, RowKind, bind, last, number, push};
 use reads::bytes;
-use reads::bytes::end_of;
+use reads::bytes::{end_of, fields};
 
-fn param_kind(tree: &[u8], p: usize) -> u64
+fn param_kind(tree: &[u8], p: usize) -> RowKind
     requires { end_of tree.now p ≤ length tree.now }
-    ensures { result ≡ cond (is_var (text_of tree.now p)) 0 2 }
+    ensures { kind_number result ≡ cond (is_var (text_of tree.now p)) 0 2 }
 {
     if bytes::is_var(tree, p) {
-        return VAR;
+        return RowKind::Var;
     }
-    ARG
+    RowKind::Arg
 }
 
 // Parameters from q on, a of them, as rows from k on.
@@ -31,12 +32,10 @@ fn bind_params(tree: &[u8], rows: &mut [u64], k: usize, q: usize, a: usize)
     requires { Pushing tree.now rows.old k q × Fields tree.now a q × (4 * (k + a) ≤ length rows.old) }
     ensures { ((vw : View) → Seen vw tree.now rows.old k → Seen vw tree.now rows.new (k + a) × (env_of vw tree.now rows.new (k + a) ≡ params (names_of tree.now a q) (env_of vw tree.now rows.old k))) × Opened rows.old rows.new k (k + a) }
 {
-    let mut i = 0;
     let mut p = q;
-    while i < a {
+    for i in 0..a {
         bind(tree, rows, k + i, param_kind(tree, p), p, 0);
         p = end_of(tree, p);
-        i += 1;
     }
 }
 
@@ -49,7 +48,16 @@ pub fn enter(tree: &[u8], rows: &mut [u64], k: usize, q: usize, a: usize, n: usi
     let c = rows[IN_VIEW];
     let l = rows[ENCLOSE];
     bind_params(tree, rows, k, end_of(tree, q), a);
-    push(tree, rows, k + a, PARENT, q, a, n, c, l, 0);
+    let row = Binding {
+        kind: RowKind::Parent,
+        place: q,
+        arity: a,
+        number: n,
+        before: c,
+        level: l,
+        tail: 0,
+    };
+    push(tree, rows, k + a, row);
     rows[ENCLOSE] = l + 1;
 }
 
@@ -60,15 +68,13 @@ pub fn bind_vars(tree: &[u8], q: usize, rows: &mut [u64], k: usize) -> usize
 {
     let tag = tree[q];
     if tag == 0x98 {
-        bind(tree, rows, k, VAR, q, 0);
+        bind(tree, rows, k, RowKind::Var, q, 0);
         return k + 1;
     }
     let z = end_of(tree, q);
-    let mut p = q + 3;
     let mut i = k;
-    while p < z {
+    for p in fields(tree, q + 3, z) {
         i = bind_vars(tree, bytes::sub_pattern(tree, tag, p), rows, i);
-        p = end_of(tree, p);
     }
     i
 }
@@ -79,11 +85,12 @@ fn bind_note(tree: &[u8], rows: &mut [u64], j: usize)
     ensures { rows.new ≡ cond (eqb (last_at rows.old j) 0) rows.old (bound_as (text_of tree.now (last_at rows.old j)) rows.old j 0 (last_at rows.old j) (number_at rows.old j)) }
 {
     let q = last(rows, j) as usize;
+    // Kept: a note keeps its place as one number of fixed memory, and no field stands at 0.
     if q == 0 {
         return;
     }
     let n = number(rows, j);
-    bind(tree, rows, j, VAR, q, n);
+    bind(tree, rows, j, RowKind::Var, q, n);
 }
 
 // The same for the notes of rows k up to i. They keep their numbers.
@@ -91,9 +98,7 @@ pub fn bind_notes(tree: &[u8], rows: &mut [u64], k: usize, i: usize)
     requires { (length tree.now ≤ 32768) × ((vw : View) × Seen vw tree.now rows.old k) × (k ≤ i) × (4 * i ≤ length rows.old) × ((j : ℕ) → k ≤ j → j < i → (6 ≤ kind_at rows.old j) × ((last_at rows.old j ≡ 0 → ⊥) → end_of tree.now (last_at rows.old j) ≤ length tree.now)) }
     ensures { ((x : Pattern) (q : ℕ) → 0 < q → PatternAt tree.now x q → lasts_of rows.old k (i - k) ≡ places_in x → ((vw : View) → Seen vw tree.now rows.old k → Seen vw tree.now rows.new i × (env_of vw tree.now rows.new i ≡ push_vars (vars x) (env_of vw tree.now rows.old k))) × (pat_at rows.new x k ≡ pat_at rows.old x k)) × Opened rows.old rows.new k i }
 {
-    let mut j = k;
-    while j < i {
+    for j in k..i {
         bind_note(tree, rows, j);
-        j += 1;
     }
 }

@@ -3,6 +3,3 @@ use Rattle.cells.proofs.close.Given as goal
 
 abbrev pub invariant-loop-j : goal.invariant-loop-j
 invariant-loop-j l = Closing l.initial.rows l.k l.i l.rows l.j
-
-abbrev pub decreases-loop-j : goal.decreases-loop-j
-decreases-loop-j l = l.j

@@ -3,7 +3,7 @@ use Rattle.compiler.proofs.bare.Goals as goal
 
 pub put_bare-requires : goal.put_bare-requires
 put_bare-requires c =
-    asks.bare-spot _ _ c.args.st.now c.requires.1 c.requires.2 c.alone.ensures.0
+    asks.bare-spot _ _ c.args.st.now c.requires.0 c.requires.1 c.alone.ensures.0
 
 pub returns : goal.returns
 returns c =

@@ -1,5 +1,5 @@
 -- Conditionals: what follows the pairs, and the whole. Assumes nothing.
-use Rattle.std.specs.Prelude.{ℕ, zero, suc, ◌+◌, ◌-◌, ◌*◌, ◌≤◌, ◌<◌, ◌≡◌, refl, List, [], ◌∷◌, ◌++◌, length, get_or, set}
+use Rattle.std.specs.Prelude.{ℕ, zero, suc, ◌+◌, ◌-◌, ◌*◌, ◌≤◌, ◌<◌, ◌≡◌, refl, List, [], ◌∷◌, ◌++◌, length, get_or}
 use Rattle.std.proofs.Common.{arith, add-zero, sym, ap, ap₂, subst, ◌∙◌, length-append}
 use Rattle.std.specs.Int.Bits.{bit_or}
 use Rattle.fields.specs.Field.{field}
@@ -15,15 +15,16 @@ use Rattle.rules.specs.Listing.{node_bytes, rec_bytes, table_bytes}
 use Rattle.rules.specs.Rules.{term, branches}
 use Rattle.reads.specs.Bytes.{TermAt}
 use Rattle.reads.specs.Shapes.{IteAt, on-ite, term-head}
-use Rattle.puts.specs.State.{num, off, ers, late, start_of, spot_of, next_of, Put, Own}
+use Rattle.puts.specs.declared.state.State.{State}
+use Rattle.puts.specs.State.{num, off, ers, late, start_of, spot_of, next_of, Put, Own, with_off}
 use Rattle.puts.specs.Rooms.{put_then, own_alone, table-append}
 use Rattle.cells.specs.Cells.{View, Seen, env_of, number_at, last_at}
 use Rattle.cells.specs.Notes.{Pair, pairs_of, else_of, pair_count, pairs_at, elses_of}
-use Rattle.records.specs.Elses.{Elsed, IteFlat, ite-flat, else-put, two-stored}
+use Rattle.records.specs.Elses.{Elsed, IteFlat, ite-flat, else-put}
 use Rattle.rows.specs.Kept.{below_less}
 use Rattle.compiler.specs.declared.Run.{Run}
 use Rattle.compiler.specs.Post.{Ready, Stands, Did, Paired, Else}
-use Rattle.compiler.specs.Common.{off-num, off-ers, off-len, off-off, start-le, place-le, form-did, ready_at, bare-long, three-long}
+use Rattle.compiler.specs.Common.{off-num, off-ers, off-off, start-le, place-le, form-did, ready_at, bare-long, three-long}
 use Rattle.compiler.specs.Moves.{ready-part}
 use Rattle.compiler.specs.FormsA.Pairs.{pairs-kept}
 
@@ -41,13 +42,13 @@ no-else b q z P l f b_none e h = f h
 no-else b q z P l f (b_else t) e h = absurd (omega (arith, l, h.2))
 no-else b q z P l f (b_pair j c u bs) e h = absurd (omega (arith, e))
 
-pub else-ready : (b s : List ℕ) (k q z : ℕ) (st : List ℕ) → Ready b s k q z st → q < z → (bs : Branches) × Row b (f_branches bs) q z × (pair_count bs ≡ 0)
+pub else-ready : (b s : List ℕ) (k q z : ℕ) (st : State) → Ready b s k q z st → q < z → (bs : Branches) × Row b (f_branches bs) q z × (pair_count bs ≡ 0)
     → Ready b s k (q + 1) (end_of b q) st × Stands b q
 else-ready b s k q z st y l g =
     else-term b q z (λ _. Ready b s k (q + 1) (end_of b q) st × Stands b q) l
     (λ t a e. (ready-part b s k q (q + 1) z (end_of b q) st y (omega arith) (omega arith) (omega (arith, e)), (t, a))) g.0 g.2 g.1
 
-pub else-some : (b : List ℕ) (q z : ℕ) (s s₁ : List ℕ) (k : ℕ) (st st₁ d d₁ : List ℕ) (al r : ℕ) → q < z → (bs : Branches) × Row b (f_branches bs) q z × (pair_count bs ≡ 0)
+pub else-some : (b : List ℕ) (q z : ℕ) (s s₁ : List ℕ) (k : ℕ) (st st₁ : State) (d d₁ : List ℕ) (al r : ℕ) → q < z → (bs : Branches) × Row b (f_branches bs) q z × (pair_count bs ≡ 0)
     → Did b q s s₁ k late st st₁ d d₁ al r → Else b q z s s₁ k st st₁ d d₁ al r
 unfolding term
 else-some b q z s s₁ k st st₁ d d₁ al r l g m =
@@ -55,7 +56,6 @@ else-some b q z s s₁ k st st₁ d d₁ al r l g m =
       is = λ vw v bs p h e. else-term b q z (λ w. let o = branches vw.top w p (env_of vw b s k) (num st) al in Own o late st st₁ d d₁ × (r ≡ o.tail)) l (λ t a _. m.is vw v t a) bs e h;
       kept = m.paid.kept;
       same = m.paid.same;
-      three = m.paid.three;
       nums = omega (arith, m.paid.nums, last);
       offs = omega (arith, m.paid.offs, last);
       errs = omega (arith, m.paid.errs, last);
@@ -64,18 +64,17 @@ else-some b q z s s₁ k st st₁ d d₁ al r l g m =
     last : end_of b q ≡ z
     last = else-term b q z (λ _. end_of b q ≡ z) l (λ t a e. e) g.0 g.2 g.1
 
-pub else-none : (b : List ℕ) (q z : ℕ) (s : List ℕ) (k x : ℕ) (st st₁ d d₁ : List ℕ) (al : ℕ) → z ≤ q → length st ≡ 3 → off st < late → (bs : Branches) × Row b (f_branches bs) q z × (pair_count bs ≡ 0)
-    → x ≡ spot_of late (start_of late (off st) 3) → st₁ ≡ set st 1 (next_of late (start_of late (off st) 3) 3) → d₁ ≡ overlay d x (field 0x50 [])
+pub else-none : (b : List ℕ) (q z : ℕ) (s : List ℕ) (k x : ℕ) (st st₁ : State) (d d₁ : List ℕ) (al : ℕ) → z ≤ q → off st < late → (bs : Branches) × Row b (f_branches bs) q z × (pair_count bs ≡ 0)
+    → x ≡ spot_of late (start_of late (off st) 3) → st₁ ≡ with_off st (next_of late (start_of late (off st) 3) 3) → d₁ ≡ overlay d x (field 0x50 [])
     → Else b q z s s k st st₁ d d₁ al 0
 unfolding term
-else-none b q z s k x st st₁ d d₁ al l t h g i e j =
+else-none b q z s k x st st₁ d d₁ al l h g i e j =
     record {
-      is = λ vw v bs p r c. no-else b q z (λ w. let o = branches vw.top w p (env_of vw b s k) (num st) al in Own o late st st₁ d d₁ × (0 ≡ o.tail)) l (λ _. (own_alone p n_id late 3 x st st₁ d d₁ t (bare-long 0x50) i e j, refl)) bs c r;
+      is = λ vw v bs p r c. no-else b q z (λ w. let o = branches vw.top w p (env_of vw b s k) (num st) al in Own o late st st₁ d d₁ × (0 ≡ o.tail)) l (λ _. (own_alone p n_id late 3 x st st₁ d d₁ (bare-long 0x50) i e j, refl)) bs c r;
       kept = refl;
       same = refl;
-      three = off-len st st₁ (next_of late (start_of late (off st) 3) 3) e;
       nums = omega (arith, off-num st st₁ (next_of late (start_of late (off st) 3) 3) e, last);
-      offs = omega (arith, off-off st st₁ (next_of late (start_of late (off st) 3) 3) t e, last, subst (λ (m : ℕ). next_of late m 3 ≤ off st + 3 + 0) (add-zero (start_of late (off st) 3)) (place-le late (off st) 3 0 h));
+      offs = omega (arith, off-off st st₁ (next_of late (start_of late (off st) 3) 3) e, last, subst (λ (m : ℕ). next_of late m 3 ≤ off st + 3 + 0) (add-zero (start_of late (off st) 3)) (place-le late (off st) 3 0 h));
       errs = omega (arith, off-ers st st₁ (next_of late (start_of late (off st) 3) 3) e, last);
     }
   where
@@ -84,7 +83,7 @@ else-none b q z s k x st st₁ d d₁ al l t h g i e j =
 
 -- ---- the whole
 
-pub ite-ready : (b s : List ℕ) (k p o : ℕ) (st st₁ : List ℕ) → get_or b p 0 ≡ 0xA6 → Ready b s k (p + 1) (end_of b p) st → Stands b p → st₁ ≡ set st 1 (start_of o (off st) 9)
+pub ite-ready : (b s : List ℕ) (k p o : ℕ) (st st₁ : State) → get_or b p 0 ≡ 0xA6 → Ready b s k (p + 1) (end_of b p) st → Stands b p → st₁ ≡ with_off st (start_of o (off st) 9)
     → Ready b s k (p + 3) (end_of b p) st₁ × (end_of b p ≤ length b) × ((bs : Branches) × Row b (f_branches bs) (p + 3) (end_of b p))
 ite-ready b s k p o st st₁ e y g f = on-ite b p (λ _. Ready b s k (p + 3) (end_of b p) st₁ × (end_of b p ≤ length b) × ((bs : Branches) × Row b (f_branches bs) (p + 3) (end_of b p))) e go g.0 g.1
   where
@@ -102,7 +101,7 @@ else-count (b_else t) = refl
 else-count (b_pair q c u bs) = else-count bs
 
 -- behind the pairs
-pub ite-other : (b s s₁ : List ℕ) (k q z : ℕ) (st st₁ d d₁ : List ℕ) (al : ℕ) (r : Run) → Ready b s k q z st → (bs : Branches) × Row b (f_branches bs) q z
+pub ite-other : (b s s₁ : List ℕ) (k q z : ℕ) (st st₁ : State) (d d₁ : List ℕ) (al : ℕ) (r : Run) → Ready b s k q z st → (bs : Branches) × Row b (f_branches bs) q z
     → Paired b q z s s₁ k st st₁ d d₁ al r
     → Ready b s₁ r.k r.q z st₁ × ((bs : Branches) × Row b (f_branches bs) r.q z × (pair_count bs ≡ 0)) × (k ≤ r.k)
 ite-other b s s₁ k q z st st₁ d d₁ al r y g m =
@@ -110,7 +109,6 @@ ite-other b s s₁ k q z st st₁ d d₁ al r y g m =
     let l : r.q ≤ z = row-le b (f_branches (else_of g.0)) r.q z a.0 in (
       record {
         small = y.small;
-        three = m.paid.three ∙ y.three;
         view = y.view;
         seen = (m.seen y.view y.seen).0;
         order = l;
@@ -159,12 +157,12 @@ first-pair s k (suc n) x xs e =
     hd (y ∷ ys) = y
 
 -- reserved, pairs, what follows them, the elses' records, the own record
-pub ite-did : (b : List ℕ) (p : ℕ) (s s₁ s₂ : List ℕ) (k o x n t r al : ℕ) (a : Run) (st st₁ st₂ st₃ st₄ st₅ d d₁ d₂ d₃ d₄ : List ℕ) → get_or b p 0 ≡ 0xA6 → Ready b s k (p + 1) (end_of b p) st → Stands b p
-    → st₁ ≡ set st 1 (start_of o (off st) 9)
+pub ite-did : (b : List ℕ) (p : ℕ) (s s₁ s₂ : List ℕ) (k o x n t r al : ℕ) (a : Run) (st st₁ st₂ st₃ st₄ st₅ : State) (d d₁ d₂ d₃ d₄ : List ℕ) → get_or b p 0 ≡ 0xA6 → Ready b s k (p + 1) (end_of b p) st → Stands b p
+    → st₁ ≡ with_off st (start_of o (off st) 9)
     → Paired b (p + 3) (end_of b p) s s₁ k st₁ st₂ d d₁ al a
     → Else b a.q (end_of b p) s₁ s₂ a.k st₂ st₃ d₁ d₂ al t
     → Elsed (pairs_at s₂ k (a.k - k)) st₃ st₄ d₂ d₃ n
-    → x ≡ spot_of o (off st₄) → st₅ ≡ set st₄ 1 (next_of o (off st₄) 9) → d₄ ≡ overlay d₃ x (node_bytes 2 (n_ite (number_at s₂ k) (last_at s₂ k) n))
+    → x ≡ spot_of o (off st₄) → st₅ ≡ with_off st₄ (next_of o (off st₄) 9) → d₄ ≡ overlay d₃ x (node_bytes 2 (n_ite (number_at s₂ k) (last_at s₂ k) n))
     → r ≡ bit_or a.tail t
     → Did b p s s₂ k o st st₅ d d₄ al r
 unfolding term pairs_of else_of pair_count
@@ -180,9 +178,6 @@ ite-did b p s s₁ s₂ k o x n t r al a st st₁ st₂ st₃ st₄ st₅ d d₁
     low : k ≤ a.k
     low = on-ite b p (λ _. k ≤ a.k) e (λ c w bs l. omega (arith, (m.at (b_pair (p + 3) c w bs) l.pairs).1)) g.0 g.1
 
-    three₃ : length st₃ ≡ 3
-    three₃ = q.three ∙ m.paid.three ∙ off-len st st₁ (start_of o (off st) 9) f ∙ y.three
-
     ps : List Pair
     ps = pairs_at s₂ k (a.k - k)
 
@@ -194,8 +189,7 @@ ite-did b p s s₁ s₂ k o x n t r al a st st₁ st₂ st₃ st₄ st₅ d d₁
 
     after : (num st₄ ≡ num st₃ + length (elses_of p ps (num st₃)) + 1) × (off st₄ ≡ off st₃ + length (table_bytes 2 (elses_of p ps (num st₃)))) × (ers st₄ ≡ ers st₃)
     after =
-        let w = two-stored st₃ (num st₃ + length (elses_of p ps (num st₃)) + 1) (off st₃ + length (table_bytes 2 (elses_of p ps (num st₃)))) three₃ in
-        (ap (λ (l : List ℕ). get_or l 0 0) (z.state p) ∙ w.0, ap (λ (l : List ℕ). get_or l 1 0) (z.state p) ∙ w.1, ap (λ (l : List ℕ). get_or l 2 0) (z.state p) ∙ w.2)
+        (ap num (z.state p), ap off (z.state p), ap ers (z.state p))
 
     n₁ : num st₁ ≡ num st
     n₁ = off-num st st₁ (start_of o (off st) 9) f
@@ -219,7 +213,7 @@ ite-did b p s s₁ s₂ k o x n t r al a st st₁ st₂ st₃ st₄ st₅ d d₁
         let made : ps ≡ M.made = pairs-kept s₁ s₂ k (a.k - k) a.k (omega (arith, low)) q.kept ∙ F.1 in
         let k₃ : num st₃ ≡ N + length O.more = omega (arith, G.0.nums, k₂) in
         let D : Put (O.more ++ (O.self ∷ elses_of p ps (num st₃))) O.errs st₂ st₄ d₁ d₃ =
-        else-put O ps p st₂ st₃ st₄ d₁ d₂ d₃ n three₃ (omega (arith, off-off st st₁ (start_of o (off st) 9) y.three f, (start-le o (off st) 9).1, y.offs, m.paid.offs, at_most)) G.0 z in
+        else-put O ps p st₂ st₃ st₄ d₁ d₂ d₃ n (omega (arith, off-off st st₁ (start_of o (off st) 9) f, (start-le o (off st) 9).1, y.offs, m.paid.offs, at_most)) G.0 z in
         let R : List Rec = O.more ++ (O.self ∷ elses_of p M.made (N + length O.more)) in
         let D₂ : Put R O.errs st₂ st₄ d₁ d₃ = subst (λ (v : List Rec). Put (O.more ++ (O.self ∷ v)) O.errs st₂ st₄ d₁ d₃) (ap₂ (λ (v : List Pair) (u : ℕ). elses_of p v u) made k₃) D in
         let I : IteFlat vw.top p (p + 3) c w bs E (num st) al (ite_out p (num st) A B (branches vw.top bs p E (num st + size A + size B) al)) = ite-flat vw.top p (p + 3) c w bs E (num st) al in

@@ -11,6 +11,7 @@ use Rattle.rules.specs.Rows.{Env}
 use Rattle.rules.specs.Outs.{slot, size}
 use Rattle.rules.specs.Rules.{term}
 use Rattle.reads.specs.Shapes.{PairAt, on-pair}
+use Rattle.puts.specs.declared.state.State.{State}
 use Rattle.puts.specs.State.{num, Put}
 use Rattle.puts.specs.Rooms.{put_then, put-none}
 use Rattle.cells.specs.Cells.{View, Seen, env_of, cell, number_at, last_at}
@@ -45,17 +46,17 @@ union_assoc a b c = same_digits _ _ (λ l. omega (arith, digit_or a (bit_or b c)
 
 -- ---- the loop: from the place p on, row i, with t returned so far, whatever the rest gives, the whole gives
 
-pub record PairsGo (b : List ℕ) (z : ℕ) (s₀ : List ℕ) (k : ℕ) (st₀ d₀ : List ℕ) (al p i t : ℕ) (s st d : List ℕ) (vw : View) (bs : Branches) : Type 0 where
+pub record PairsGo (b : List ℕ) (z : ℕ) (s₀ : List ℕ) (k : ℕ) (st₀ : State) (d₀ : List ℕ) (al p i t : ℕ) (s : List ℕ) (st : State) (d : List ℕ) (vw : View) (bs : Branches) : Type 0 where
   pub rest : Branches
   pub at : Row b (f_branches rest) p z
-  pub puts : (st' d' : List ℕ)
+  pub puts : (st' : State) (d' : List ℕ)
       → let m = pairs_of vw.top rest (env_of vw b s₀ k) (num st) al in
       let w = pairs_of vw.top bs (env_of vw b s₀ k) (num st₀) al in
       Put m.more m.errs st st' d d' → Put w.more w.errs st₀ st' d₀ d'
   pub made : (pairs_of vw.top bs (env_of vw b s₀ k) (num st₀) al).made ≡ pairs_at s k (i - k) ++ (pairs_of vw.top rest (env_of vw b s₀ k) (num st) al).made
   pub tail : (pairs_of vw.top bs (env_of vw b s₀ k) (num st₀) al).tail ≡ bit_or t (pairs_of vw.top rest (env_of vw b s₀ k) (num st) al).tail
 
-pub record Pairing (b : List ℕ) (q z : ℕ) (s₀ : List ℕ) (k : ℕ) (st₀ d₀ : List ℕ) (al p i t : ℕ) (s st d : List ℕ) : Type 0 where
+pub record Pairing (b : List ℕ) (q z : ℕ) (s₀ : List ℕ) (k : ℕ) (st₀ : State) (d₀ : List ℕ) (al p i t : ℕ) (s : List ℕ) (st : State) (d : List ℕ) : Type 0 where
   pub goes : (vw : View) → Seen vw b s₀ k → (bs : Branches) → Row b (f_branches bs) q z → PairsGo b z s₀ k st₀ d₀ al p i t s st d vw bs
   pub ats : (bs : Branches) → Row b (f_branches bs) q z → (rest : Branches) × Row b (f_branches rest) p z × (else_of bs ≡ else_of rest) × (k + pair_count bs ≡ i + pair_count rest)
   pub some : (bs : Branches) × Row b (f_branches bs) p z
@@ -66,7 +67,7 @@ pub record Pairing (b : List ℕ) (q z : ℕ) (s₀ : List ℕ) (k : ℕ) (st₀
   pub size : length d ≡ length d₀
   pub paid : Paid (q + (i - k)) p k s₀ s st₀ st
 
-pub pairs_start : (b : List ℕ) (q z : ℕ) (s : List ℕ) (k : ℕ) (st d : List ℕ) (al : ℕ) → (bs : Branches) × Row b (f_branches bs) q z → Pairing b q z s k st d al q k 0 s st d
+pub pairs_start : (b : List ℕ) (q z : ℕ) (s : List ℕ) (k : ℕ) (st : State) (d : List ℕ) (al : ℕ) → (bs : Branches) × Row b (f_branches bs) q z → Pairing b q z s k st d al q k 0 s st d
 unfolding pairs_at
 pairs_start b q z s k st d al g =
     record {
@@ -79,18 +80,17 @@ pairs_start b q z s k st d al g =
       rows = omega arith;
       end = row-le b (f_branches g.0) q z g.1;
       size = refl;
-      paid = record { kept = refl; same = refl; three = refl; nums = omega arith; offs = omega arith; errs = omega arith };
+      paid = record { kept = refl; same = refl; nums = omega arith; offs = omega arith; errs = omega arith };
     }
   where
     none : k - k ≡ 0
     none = omega arith
 
 -- what is ready at the start is ready at each pair
-pub pairs-ready : (b : List ℕ) (q z : ℕ) (s₀ : List ℕ) (k : ℕ) (st₀ d₀ : List ℕ) (al p i t : ℕ) (s st d : List ℕ) → Ready b s₀ k q z st₀ → Pairing b q z s₀ k st₀ d₀ al p i t s st d → Ready b s i p z st
+pub pairs-ready : (b : List ℕ) (q z : ℕ) (s₀ : List ℕ) (k : ℕ) (st₀ : State) (d₀ : List ℕ) (al p i t : ℕ) (s : List ℕ) (st : State) (d : List ℕ) → Ready b s₀ k q z st₀ → Pairing b q z s₀ k st₀ d₀ al p i t s st d → Ready b s i p z st
 pairs-ready b q z s₀ k st₀ d₀ al p i t s st d y m =
     record {
       small = y.small;
-      three = m.paid.three ∙ y.three;
       view = y.view;
       seen = (m.seen y.view y.seen).0;
       order = m.end;
@@ -102,7 +102,7 @@ pairs-ready b q z s₀ k st₀ d₀ al p i t s st d y m =
     }
 
 -- a pair at p stands where its members can be compiled
-pub pair-test : (b : List ℕ) (p i z : ℕ) (s st : List ℕ) → Ready b s i p z st → p < z → get_or b p 0 ≡ 0xB8 → (bs : Branches) × Row b (f_branches bs) p z
+pub pair-test : (b : List ℕ) (p i z : ℕ) (s : List ℕ) (st : State) → Ready b s i p z st → p < z → get_or b p 0 ≡ 0xB8 → (bs : Branches) × Row b (f_branches bs) p z
     → Ready b s i (p + 3) (end_of b (p + 3)) st × Stands b (p + 3) × (end_of b p ≤ length b) × (end_of b (p + 3) < end_of b p)
 pair-test b p i z s st y l e g =
     on-pair b p z (λ _. Ready b s i (p + 3) (end_of b (p + 3)) st × Stands b (p + 3) × (end_of b p ≤ length b) × (end_of b (p + 3) < end_of b p)) l e
@@ -114,7 +114,7 @@ pair-test b p i z s st y l e g =
     ))
     g.0 g.1
 
-pub pair_then : (b : List ℕ) (p i z : ℕ) (s s₁ s₂ st st₁ d d₁ : List ℕ) (a c r : ℕ) → Ready b s i p z st → p < z → get_or b p 0 ≡ 0xB8 → (bs : Branches) × Row b (f_branches bs) p z
+pub pair_then : (b : List ℕ) (p i z : ℕ) (s s₁ s₂ : List ℕ) (st st₁ : State) (d d₁ : List ℕ) (a c r : ℕ) → Ready b s i p z st → p < z → get_or b p 0 ≡ 0xB8 → (bs : Branches) × Row b (f_branches bs) p z
     → Laid b (p + 3) s s₁ i st st₁ d d₁ 0 r → Noting b s₁ s₂ i a c
     → Ready b s₂ (i + 1) (end_of b (p + 3)) (end_of b (end_of b (p + 3))) st₁ × Stands b (end_of b (p + 3))
 pair_then b p i z s s₁ s₂ st st₁ d d₁ a c r y l e g m n =
@@ -123,7 +123,6 @@ pair_then b p i z s s₁ s₂ st st₁ d d₁ a c r y l e g m n =
     let w = row-le b (f_branches bs) (end_of b p) z j in (
       record {
         small = y.small;
-        three = m.paid.three ∙ y.three;
         view = y.view;
         seen = (n.seen y.view (seen-kept y.view b s s₁ i m.paid.kept m.paid.same y.seen).0).0;
         order = omega arith;
@@ -137,7 +136,7 @@ pair_then b p i z s s₁ s₂ st st₁ d d₁ a c r y l e g m n =
     ))
     g.0 g.1
 
-pub pair-more : (b : List ℕ) (q z : ℕ) (s₀ : List ℕ) (k : ℕ) (st₀ d₀ : List ℕ) (al p i t : ℕ) (s st d : List ℕ) (s₁ s₂ s₃ st₁ st₂ d₁ d₂ : List ℕ) (a c r r' : ℕ)
+pub pair-more : (b : List ℕ) (q z : ℕ) (s₀ : List ℕ) (k : ℕ) (st₀ : State) (d₀ : List ℕ) (al p i t : ℕ) (s : List ℕ) (st : State) (d : List ℕ) (s₁ s₂ s₃ : List ℕ) (st₁ st₂ : State) (d₁ d₂ : List ℕ) (a c r r' : ℕ)
     → Ready b s₀ k q z st₀ → p < z → get_or b p 0 ≡ 0xB8 → Pairing b q z s₀ k st₀ d₀ al p i t s st d
     → a ≡ num st → Laid b (p + 3) s s₁ i st st₁ d d₁ 0 r' → c ≡ num st₁ → Noting b s₁ s₂ i a c
     → Laid b (end_of b (p + 3)) s₂ s₃ (i + 1) st₁ st₂ d₁ d₂ al r
@@ -148,7 +147,7 @@ pair-more b q z s₀ k st₀ d₀ al p i t s st d s₁ s₂ s₃ st₁ st₂ d�
       goes = λ vw v bs h.
           let g = m.goes vw v bs h in
           on-pair b p z
-          (λ w. ((st' d' : List ℕ)
+          (λ w. ((st' : State) (d' : List ℕ)
           → let o = pairs_of vw.top w (env_of vw b s₀ k) (num st) al in
           let o₀ = pairs_of vw.top bs (env_of vw b s₀ k) (num st₀) al in
           Put o.more o.errs st st' d d' → Put o₀.more o₀.errs st₀ st' d₀ d')
@@ -170,7 +169,6 @@ pair-more b q z s₀ k st₀ d₀ al p i t s st d s₁ s₂ s₃ st₁ st₂ d�
           record {
             kept = below_less (4 * k) (4 * i) s s₃ (omega (arith, m.low)) under ∙ m.paid.kept;
             same = y.paid.same ∙ n.same ∙ x.paid.same ∙ m.paid.same;
-            three = y.paid.three ∙ x.paid.three ∙ m.paid.three;
             nums = omega (arith, m.paid.nums, x.paid.nums, y.paid.nums, last, m.low);
             offs = omega (arith, m.paid.offs, x.paid.offs, y.paid.offs, last, m.low);
             errs = omega (arith, m.paid.errs, x.paid.errs, y.paid.errs, last, m.low);
@@ -221,7 +219,7 @@ pair-more b q z s₀ k st₀ d₀ al p i t s st d s₁ s₂ s₃ st₁ st₂ d�
         ∙ ap₂ (λ (v : ℕ) (w : ℕ). pairs_at s k (i - k) ++ (record { test = v; then = w } ∷ [])) number second
 
     step : (vw : View) → Seen vw b s₀ k → (bs : Branches) (f u : Term) (w : Branches) → PairAt b p f u → Row b (f_branches w) (end_of b p) z
-        → ((st' d' : List ℕ)
+        → ((st' : State) (d' : List ℕ)
         → let o = pairs_of vw.top (b_pair p f u w) (env_of vw b s₀ k) (num st) al in
         let o₀ = pairs_of vw.top bs (env_of vw b s₀ k) (num st₀) al in
         Put o.more o.errs st st' d d' → Put o₀.more o₀.errs st₀ st' d₀ d')
@@ -262,7 +260,7 @@ unfolding At f_term
 pair-here b p z j c u w h = (omega (arith, row-le b (f_branches w) (end_of b p) z h.2), subst (λ (k : ℕ). get_or b k 0 ≡ 0xB8) h.0 h.1.0.tagged)
 
 -- no pair at p
-pub pairs-done : (b : List ℕ) (q z : ℕ) (s₀ : List ℕ) (k : ℕ) (st₀ d₀ : List ℕ) (al p i t : ℕ) (s st d : List ℕ) (r : Run)
+pub pairs-done : (b : List ℕ) (q z : ℕ) (s₀ : List ℕ) (k : ℕ) (st₀ : State) (d₀ : List ℕ) (al p i t : ℕ) (s : List ℕ) (st : State) (d : List ℕ) (r : Run)
     → (p < z → get_or b p 0 ≡ 0xB8 → ⊥) → Pairing b q z s₀ k st₀ d₀ al p i t s st d → r.k ≡ i → r.q ≡ p → r.tail ≡ t
     → Paired b q z s₀ s k st₀ st d₀ d al r
 unfolding pairs_of pair_count else_of
@@ -271,7 +269,7 @@ pairs-done b q z s₀ k st₀ d₀ al p i t s st d r n m e₁ e₂ e₃ =
       is = λ vw v bs h.
           let g = m.goes vw v bs h in
           let o₀ = pairs_of vw.top bs (env_of vw b s₀ k) (num st₀) al in
-          none (λ w. ((st' d' : List ℕ) → let o = pairs_of vw.top w (env_of vw b s₀ k) (num st) al in Put o.more o.errs st st' d d' → Put o₀.more o₀.errs st₀ st' d₀ d')
+          none (λ w. ((st' : State) (d' : List ℕ) → let o = pairs_of vw.top w (env_of vw b s₀ k) (num st) al in Put o.more o.errs st st' d d' → Put o₀.more o₀.errs st₀ st' d₀ d')
           → o₀.made ≡ pairs_at s k (i - k) ++ (pairs_of vw.top w (env_of vw b s₀ k) (num st) al).made
           → o₀.tail ≡ bit_or t (pairs_of vw.top w (env_of vw b s₀ k) (num st) al).tail
           → Put o₀.more o₀.errs st₀ st d₀ d × (pairs_at s k (r.k - k) ≡ o₀.made) × (r.tail ≡ o₀.tail))
@@ -294,7 +292,7 @@ pairs-done b q z s₀ k st₀ d₀ al p i t s st d r n m e₁ e₂ e₃ =
         absurd (n (pair-here b p z j c u w h).0 (pair-here b p z j c u w h).1)
 
     end : (vw : View) (bs : Branches)
-        → ((st' d' : List ℕ) → let o₀ = pairs_of vw.top bs (env_of vw b s₀ k) (num st₀) al in Put [] [] st st' d d' → Put o₀.more o₀.errs st₀ st' d₀ d')
+        → ((st' : State) (d' : List ℕ) → let o₀ = pairs_of vw.top bs (env_of vw b s₀ k) (num st₀) al in Put [] [] st st' d d' → Put o₀.more o₀.errs st₀ st' d₀ d')
         → (pairs_of vw.top bs (env_of vw b s₀ k) (num st₀) al).made ≡ pairs_at s k (i - k) ++ []
         → (pairs_of vw.top bs (env_of vw b s₀ k) (num st₀) al).tail ≡ bit_or t 0
         → let o₀ = pairs_of vw.top bs (env_of vw b s₀ k) (num st₀) al in Put o₀.more o₀.errs st₀ st d₀ d × (pairs_at s k (r.k - k) ≡ o₀.made) × (r.tail ≡ o₀.tail)
@@ -305,5 +303,5 @@ pairs-done b q z s₀ k st₀ d₀ al p i t s st d r n m e₁ e₂ e₃ =
     )
 
 -- the next place as the code has it
-pub at_next : (b : List ℕ) (q z : ℕ) (s₀ : List ℕ) (k : ℕ) (st₀ d₀ : List ℕ) (al x p i t : ℕ) (s st d : List ℕ) → x ≡ p → Pairing b q z s₀ k st₀ d₀ al p i t s st d → Pairing b q z s₀ k st₀ d₀ al x i t s st d
+pub at_next : (b : List ℕ) (q z : ℕ) (s₀ : List ℕ) (k : ℕ) (st₀ : State) (d₀ : List ℕ) (al x p i t : ℕ) (s : List ℕ) (st : State) (d : List ℕ) → x ≡ p → Pairing b q z s₀ k st₀ d₀ al p i t s st d → Pairing b q z s₀ k st₀ d₀ al x i t s st d
 at_next b q z s₀ k st₀ d₀ al x p i t s st d e m = subst (λ (w : ℕ). Pairing b q z s₀ k st₀ d₀ al w i t s st d) (sym e) m

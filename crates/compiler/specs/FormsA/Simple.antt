@@ -1,5 +1,5 @@
 -- Forms with one or two members: Arr, Neg, Label, TryCatch. Assumes nothing.
-use Rattle.std.specs.Prelude.{ℕ, suc, ◌+◌, ◌*◌, ◌≤◌, ◌<◌, ◌≡◌, refl, List, [], ◌∷◌, ◌++◌, length, get_or, set, take}
+use Rattle.std.specs.Prelude.{ℕ, suc, ◌+◌, ◌*◌, ◌≤◌, ◌<◌, ◌≡◌, refl, List, [], ◌∷◌, ◌++◌, length, get_or, take}
 use Rattle.std.proofs.Common.{arith, add-zero, sym, ap, subst, ◌∙◌}
 use Rattle.fields.specs.Number.{number}
 use Rattle.fields.specs.Field.{field}
@@ -15,7 +15,8 @@ use Rattle.rules.specs.Names.{ascii}
 use Rattle.rules.specs.Rules.{term, or_empty, empty_out, called}
 use Rattle.reads.specs.Bytes.{name_at}
 use Rattle.reads.specs.Shapes.{ArrAt, NegAt, LabelAt, TryAt, on-arr, on-neg, on-label, on-try, on-some-term, on-no-term}
-use Rattle.puts.specs.State.{num, off, ers, start_of, spot_of, next_of, Put}
+use Rattle.puts.specs.declared.state.State.{State}
+use Rattle.puts.specs.State.{num, off, ers, start_of, spot_of, next_of, Put, with_off}
 use Rattle.puts.specs.Rooms.{put_then}
 use Rattle.cells.specs.Cells.{View, Seen, env_of, Opened, closed}
 use Rattle.rows.specs.Kept.{seen-kept}
@@ -24,7 +25,7 @@ use Rattle.compiler.specs.Common.{off-num, form-did, ready_at, ready-then, one-l
 
 -- ---- Arr
 
-pub arr-ready : (b s : List ℕ) (k p o : ℕ) (st st₁ : List ℕ) → get_or b p 0 ≡ 0xA2 → Ready b s k (p + 1) (end_of b p) st → Stands b p → st₁ ≡ set st 1 (start_of o (off st) 5)
+pub arr-ready : (b s : List ℕ) (k p o : ℕ) (st st₁ : State) → get_or b p 0 ≡ 0xA2 → Ready b s k (p + 1) (end_of b p) st → Stands b p → st₁ ≡ with_off st (start_of o (off st) 5)
     → Ready b s k (p + 3) (end_of b p) st₁ × (end_of b p ≤ length b) × ((x : OptTerm) × Row b (f_opt_term x rnil) (p + 3) (end_of b p))
 arr-ready b s k p o st st₁ e y g f =
     on-arr b p (λ _. Ready b s k (p + 3) (end_of b p) st₁ × (end_of b p ≤ length b) × ((x : OptTerm) × Row b (f_opt_term x rnil) (p + 3) (end_of b p))) e go g.0 g.1
@@ -32,10 +33,10 @@ arr-ready b s k p o st st₁ e y g f =
     go : (x : OptTerm) → ArrAt b p x → Ready b s k (p + 3) (end_of b p) st₁ × (end_of b p ≤ length b) × ((x : OptTerm) × Row b (f_opt_term x rnil) (p + 3) (end_of b p))
     go x n = (subst (λ (i : ℕ). Ready b s i (p + 3) (end_of b p) st₁) (add-zero k) (ready_at b s s k 0 p (p + 3) (end_of b p) o 5 st st₁ y f (omega arith) (omega arith) (omega arith) (omega arith) (omega arith) refl (λ vw v. subst (λ (i : ℕ). Seen vw b s i) (sym (add-zero k)) v)), n.fits, (x, n.body))
 
-pub arr-did : (b : List ℕ) (p : ℕ) (s s₁ : List ℕ) (k o a x : ℕ) (st st₁ st₂ st₃ d d₁ d₂ : List ℕ) → get_or b p 0 ≡ 0xA2 → Ready b s k (p + 1) (end_of b p) st → Stands b p
-    → st₁ ≡ set st 1 (start_of o (off st) 5) → a ≡ num st₁
+pub arr-did : (b : List ℕ) (p : ℕ) (s s₁ : List ℕ) (k o a x : ℕ) (st st₁ st₂ st₃ : State) (d d₁ d₂ : List ℕ) → get_or b p 0 ≡ 0xA2 → Ready b s k (p + 1) (end_of b p) st → Stands b p
+    → st₁ ≡ with_off st (start_of o (off st) 5) → a ≡ num st₁
     → OrEmpty b (p + 3) (end_of b p) s s₁ k st₁ st₂ d d₁
-    → x ≡ spot_of o (off st₂) → st₃ ≡ set st₂ 1 (next_of o (off st₂) 5) → d₂ ≡ overlay d₁ x (field 0x56 (number 2 a))
+    → x ≡ spot_of o (off st₂) → st₃ ≡ with_off st₂ (next_of o (off st₂) 5) → d₂ ≡ overlay d₁ x (field 0x56 (number 2 a))
     → (al : ℕ) → Did b p s s₁ k o st st₃ d d₂ al 0
 unfolding term
 arr-did b p s s₁ k o a x st st₁ st₂ st₃ d d₁ d₂ e y g f a₁ m i h j al =
@@ -55,17 +56,17 @@ arr-did b p s s₁ k o a x st st₁ st₂ st₃ d d₁ d₂ e y g f a₁ m i h j
 
 -- ---- Neg
 
-pub neg-ready : (b s : List ℕ) (k p o : ℕ) (st st₁ : List ℕ) → get_or b p 0 ≡ 0xA3 → Ready b s k (p + 1) (end_of b p) st → Stands b p → st₁ ≡ set st 1 (start_of o (off st) 5)
+pub neg-ready : (b s : List ℕ) (k p o : ℕ) (st st₁ : State) → get_or b p 0 ≡ 0xA3 → Ready b s k (p + 1) (end_of b p) st → Stands b p → st₁ ≡ with_off st (start_of o (off st) 5)
     → Ready b s k (p + 3) (end_of b (p + 3)) st₁ × Stands b (p + 3)
 neg-ready b s k p o st st₁ e y g f = on-neg b p (λ _. Ready b s k (p + 3) (end_of b (p + 3)) st₁ × Stands b (p + 3)) e go g.0 g.1
   where
     go : (u : Term) → NegAt b p u → Ready b s k (p + 3) (end_of b (p + 3)) st₁ × Stands b (p + 3)
     go u n = (subst (λ (i : ℕ). Ready b s i (p + 3) (end_of b (p + 3)) st₁) (add-zero k) (ready_at b s s k 0 p (p + 3) (end_of b (p + 3)) o 5 st st₁ y f (omega arith) (omega arith) (omega arith) (omega arith) (omega (arith, n.last)) refl (λ vw v. subst (λ (i : ℕ). Seen vw b s i) (sym (add-zero k)) v)), (u, n.body))
 
-pub neg-did : (b : List ℕ) (p : ℕ) (s s₁ : List ℕ) (k o a x r : ℕ) (st st₁ st₂ st₃ d d₁ d₂ : List ℕ) → get_or b p 0 ≡ 0xA3 → Ready b s k (p + 1) (end_of b p) st → Stands b p
-    → st₁ ≡ set st 1 (start_of o (off st) 5) → a ≡ num st₁
+pub neg-did : (b : List ℕ) (p : ℕ) (s s₁ : List ℕ) (k o a x r : ℕ) (st st₁ st₂ st₃ : State) (d d₁ d₂ : List ℕ) → get_or b p 0 ≡ 0xA3 → Ready b s k (p + 1) (end_of b p) st → Stands b p
+    → st₁ ≡ with_off st (start_of o (off st) 5) → a ≡ num st₁
     → Laid b (p + 3) s s₁ k st₁ st₂ d d₁ 0 r
-    → x ≡ spot_of o (off st₂) → st₃ ≡ set st₂ 1 (next_of o (off st₂) 5) → d₂ ≡ overlay d₁ x (field 0x5D (number 2 a))
+    → x ≡ spot_of o (off st₂) → st₃ ≡ with_off st₂ (next_of o (off st₂) 5) → d₂ ≡ overlay d₁ x (field 0x5D (number 2 a))
     → (al : ℕ) → Did b p s s₁ k o st st₃ d d₂ al 0
 unfolding term
 neg-did b p s s₁ k o a x r st st₁ st₂ st₃ d d₁ d₂ e y g f a₁ m i h j al =
@@ -91,7 +92,7 @@ neg-did b p s s₁ k o a x r st st₁ st₂ st₃ d d₁ d₂ e y g f a₁ m i h
 abbrev pub Labels : List ℕ → List ℕ → List ℕ → ℕ → ℕ → Type 0
 Labels b s s₁ k q = (vw : View) → Seen vw b s k → Seen vw b s₁ (k + 1) × (env_of vw b s₁ (k + 1) ≡ label (name_at b q) ∷ env_of vw b s k)
 
-pub label-ready : (b s s₁ : List ℕ) (k p o : ℕ) (st st₁ : List ℕ) → get_or b p 0 ≡ 0xA4 → Ready b s k (p + 1) (end_of b p) st → Stands b p → st₁ ≡ set st 1 (start_of o (off st) 5)
+pub label-ready : (b s s₁ : List ℕ) (k p o : ℕ) (st st₁ : State) → get_or b p 0 ≡ 0xA4 → Ready b s k (p + 1) (end_of b p) st → Stands b p → st₁ ≡ with_off st (start_of o (off st) 5)
     → length s₁ ≡ length s → Labels b s s₁ k (p + 3)
     → Ready b s₁ (k + 1) (end_of b (p + 3)) (end_of b (end_of b (p + 3))) st₁ × Stands b (end_of b (p + 3))
 label-ready b s s₁ k p o st st₁ e y g f l c = on-label b p (λ _. Ready b s₁ (k + 1) (end_of b (p + 3)) (end_of b (end_of b (p + 3))) st₁ × Stands b (end_of b (p + 3))) e go g.0 g.1
@@ -99,12 +100,12 @@ label-ready b s s₁ k p o st st₁ e y g f l c = on-label b p (λ _. Ready b s�
     go : (u : Term) → LabelAt b p u → Ready b s₁ (k + 1) (end_of b (p + 3)) (end_of b (end_of b (p + 3))) st₁ × Stands b (end_of b (p + 3))
     go u n = (ready_at b s s₁ k 1 p (end_of b (p + 3)) (end_of b (end_of b (p + 3))) o 5 st st₁ y f (omega arith) (omega arith) (omega arith) (omega arith) (omega (arith, n.last)) l (λ vw v. (c vw v).0), (u, n.body))
 
-pub label-did : (b : List ℕ) (p : ℕ) (s s₁ s₂ s₃ : List ℕ) (k o a x r : ℕ) (st st₁ st₂ st₃ d d₁ d₂ : List ℕ) → get_or b p 0 ≡ 0xA4 → Ready b s k (p + 1) (end_of b p) st → Stands b p
-    → st₁ ≡ set st 1 (start_of o (off st) 5) → a ≡ num st₁
+pub label-did : (b : List ℕ) (p : ℕ) (s s₁ s₂ s₃ : List ℕ) (k o a x r : ℕ) (st st₁ st₂ st₃ : State) (d d₁ d₂ : List ℕ) → get_or b p 0 ≡ 0xA4 → Ready b s k (p + 1) (end_of b p) st → Stands b p
+    → st₁ ≡ with_off st (start_of o (off st) 5) → a ≡ num st₁
     → Labels b s s₁ k (p + 3) → Opened s s₁ k (k + 1)
     → Laid b (end_of b (p + 3)) s₁ s₂ (k + 1) st₁ st₂ d d₁ 0 r
     → s₃ ≡ closed s₂ k (k + 1) (get_or s 1 0) → length s₃ ≡ length s₂
-    → x ≡ spot_of o (off st₂) → st₃ ≡ set st₂ 1 (next_of o (off st₂) 5) → d₂ ≡ overlay d₁ x (field 0x5C (number 2 a))
+    → x ≡ spot_of o (off st₂) → st₃ ≡ with_off st₂ (next_of o (off st₂) 5) → d₂ ≡ overlay d₁ x (field 0x5C (number 2 a))
     → (al : ℕ) → Did b p s s₃ k o st st₃ d d₂ al 0
 unfolding term
 label-did b p s s₁ s₂ s₃ k o a x r st st₁ st₂ st₃ d d₁ d₂ e y g f a₁ c q m z l i h j al =
@@ -134,7 +135,7 @@ label-did b p s s₁ s₂ s₃ k o a x r st st₁ st₂ st₃ d d₁ d₂ e y g 
 
 -- ---- TryCatch
 
-pub try-ready : (b s : List ℕ) (k p o : ℕ) (st st₁ : List ℕ) → get_or b p 0 ≡ 0xAB → Ready b s k (p + 1) (end_of b p) st → Stands b p → st₁ ≡ set st 1 (start_of o (off st) 7)
+pub try-ready : (b s : List ℕ) (k p o : ℕ) (st st₁ : State) → get_or b p 0 ≡ 0xAB → Ready b s k (p + 1) (end_of b p) st → Stands b p → st₁ ≡ with_off st (start_of o (off st) 7)
     → Ready b s k (p + 3) (end_of b (p + 3)) st₁ × Stands b (p + 3)
 try-ready b s k p o st st₁ e y g f = on-try b p (λ _. Ready b s k (p + 3) (end_of b (p + 3)) st₁ × Stands b (p + 3)) e go g.0 g.1
   where
@@ -142,7 +143,7 @@ try-ready b s k p o st st₁ e y g f = on-try b p (λ _. Ready b s k (p + 3) (en
     go u x n = (subst (λ (i : ℕ). Ready b s i (p + 3) (end_of b (p + 3)) st₁) (add-zero k) (ready_at b s s k 0 p (p + 3) (end_of b (p + 3)) o 7 st st₁ y f (omega arith) (omega arith) (omega arith) (omega arith) (omega (arith, row-le b (f_opt_term x rnil) (end_of b (p + 3)) (end_of b p) n.catch)) refl (λ vw v. subst (λ (i : ℕ). Seen vw b s i) (sym (add-zero k)) v)), (u, n.body))
 
 -- the catch, where the rows s₁ are left of those in view
-pub catch-ready : (b s s₁ : List ℕ) (k p o r : ℕ) (st st₁ st₂ d d₁ : List ℕ) → get_or b p 0 ≡ 0xAB → Ready b s k (p + 1) (end_of b p) st → Stands b p → st₁ ≡ set st 1 (start_of o (off st) 7)
+pub catch-ready : (b s s₁ : List ℕ) (k p o r : ℕ) (st st₁ st₂ : State) (d d₁ : List ℕ) → get_or b p 0 ≡ 0xAB → Ready b s k (p + 1) (end_of b p) st → Stands b p → st₁ ≡ with_off st (start_of o (off st) 7)
     → Laid b (p + 3) s s₁ k st₁ st₂ d d₁ 0 r
     → Ready b s₁ k (end_of b (p + 3)) (end_of b p) st₂ × (end_of b p ≤ length b) × ((x : OptTerm) × Row b (f_opt_term x rnil) (end_of b (p + 3)) (end_of b p))
 catch-ready b s s₁ k p o r st st₁ st₂ d d₁ e y g f m = on-try b p (λ _. Goal) e go g.0 g.1
@@ -161,11 +162,11 @@ catch-ready b s s₁ k p o r st st₁ st₂ d d₁ e y g f m = on-try b p (λ _.
           (x, n.catch),
         )
 
-pub try-did : (b : List ℕ) (p : ℕ) (s s₁ s₂ : List ℕ) (k o a c x r : ℕ) (st st₁ st₂ st₃ st₄ d d₁ d₂ d₃ : List ℕ) → get_or b p 0 ≡ 0xAB → Ready b s k (p + 1) (end_of b p) st → Stands b p
-    → st₁ ≡ set st 1 (start_of o (off st) 7) → a ≡ num st₁
+pub try-did : (b : List ℕ) (p : ℕ) (s s₁ s₂ : List ℕ) (k o a c x r : ℕ) (st st₁ st₂ st₃ st₄ : State) (d d₁ d₂ d₃ : List ℕ) → get_or b p 0 ≡ 0xAB → Ready b s k (p + 1) (end_of b p) st → Stands b p
+    → st₁ ≡ with_off st (start_of o (off st) 7) → a ≡ num st₁
     → Laid b (p + 3) s s₁ k st₁ st₂ d d₁ 0 r → c ≡ num st₂
     → OrEmpty b (end_of b (p + 3)) (end_of b p) s₁ s₂ k st₂ st₃ d₁ d₂
-    → x ≡ spot_of o (off st₃) → st₄ ≡ set st₃ 1 (next_of o (off st₃) 7) → d₃ ≡ overlay d₂ x (field 0x68 (number 2 a ++ number 2 c))
+    → x ≡ spot_of o (off st₃) → st₄ ≡ with_off st₃ (next_of o (off st₃) 7) → d₃ ≡ overlay d₂ x (field 0x68 (number 2 a ++ number 2 c))
     → (al : ℕ) → Did b p s s₂ k o st st₄ d d₃ al 0
 unfolding term
 try-did b p s s₁ s₂ k o a c x r st st₁ st₂ st₃ st₄ d d₁ d₂ d₃ e y g f a₁ m c₁ q i h j al =
@@ -194,11 +195,11 @@ try-did b p s s₁ s₂ k o a c x r st st₁ st₂ st₃ st₄ d d₁ d₂ d₃ 
 
 -- ---- a term or a call of `!empty`
 
-pub some-ready : (b s : List ℕ) (k q z : ℕ) (st : List ℕ) → Ready b s k q z st → q < z → (x : OptTerm) × Row b (f_opt_term x rnil) q z → Ready b s k q (end_of b q) st × Stands b q
+pub some-ready : (b s : List ℕ) (k q z : ℕ) (st : State) → Ready b s k q z st → q < z → (x : OptTerm) × Row b (f_opt_term x rnil) q z → Ready b s k q (end_of b q) st × Stands b q
 some-ready b s k q z st y l g =
     on-some-term b q z (λ _. Ready b s k q (end_of b q) st × Stands b q) l (λ t a e. (subst (λ (x : ℕ). Ready b s k q x st) (sym e) y, (t, a))) g.0 g.1
 
-pub some-empty : (b : List ℕ) (q z : ℕ) (s s₁ : List ℕ) (k r : ℕ) (st st₁ d d₁ : List ℕ) → q < z → (x : OptTerm) × Row b (f_opt_term x rnil) q z
+pub some-empty : (b : List ℕ) (q z : ℕ) (s s₁ : List ℕ) (k r : ℕ) (st st₁ : State) (d d₁ : List ℕ) → q < z → (x : OptTerm) × Row b (f_opt_term x rnil) q z
     → Laid b q s s₁ k st st₁ d d₁ 0 r → OrEmpty b q z s s₁ k st st₁ d d₁
 unfolding term
 some-empty b q z s s₁ k r st st₁ d d₁ l g m =
@@ -206,7 +207,6 @@ some-empty b q z s s₁ k r st st₁ d d₁ l g m =
       is = λ vw v x p h. on-some-term b q z (λ u. let A = or_empty vw.top u p (env_of vw b s k) (suc (num st)) in Put (slot A) A.errs st st₁ d d₁) l (λ t a _. (m.is vw v t a).0) x h;
       kept = m.paid.kept;
       same = m.paid.same;
-      three = m.paid.three;
       nums = omega (arith, m.paid.nums, last);
       offs = omega (arith, m.paid.offs, last);
       errs = omega (arith, m.paid.errs, last);
@@ -215,17 +215,16 @@ some-empty b q z s s₁ k r st st₁ d d₁ l g m =
     last : end_of b q ≡ z
     last = on-some-term b q z (λ _. end_of b q ≡ z) l (λ t a e. e) g.0 g.1
 
-pub none-empty : (b : List ℕ) (q z : ℕ) (s : List ℕ) (k : ℕ) (st st₁ d d₁ : List ℕ) → z ≤ q → length st ≡ 3 → (x : OptTerm) × Row b (f_opt_term x rnil) q z
+pub none-empty : (b : List ℕ) (q z : ℕ) (s : List ℕ) (k : ℕ) (st st₁ : State) (d d₁ : List ℕ) → z ≤ q → (x : OptTerm) × Row b (f_opt_term x rnil) q z
     → ((vw : View) (k p : ℕ) → Seen vw b s k → let m = called vw.top p (ascii "!empty") 0 0 (bare []) (env_of vw b s k) empty in Put (slot m) m.errs st st₁ d d₁)
-    → length st₁ ≡ length st → num st₁ ≡ num st + 1 → off st₁ ≤ off st + 10 → ers st₁ ≤ ers st + 11
+    → num st₁ ≡ num st + 1 → off st₁ ≤ off st + 10 → ers st₁ ≤ ers st + 11
     → OrEmpty b q z s s k st st₁ d d₁
 unfolding term empty_out
-none-empty b q z s k st st₁ d d₁ l t g f h n o e =
+none-empty b q z s k st st₁ d d₁ l g f n o e =
     record {
       is = λ vw v x p i. on-no-term b q z (λ u. let A = or_empty vw.top u p (env_of vw b s k) (suc (num st)) in Put (slot A) A.errs st st₁ d d₁) l (λ _. f vw k p v) x i;
       kept = refl;
       same = refl;
-      three = h;
       nums = omega (arith, n, last);
       offs = omega (arith, o, last);
       errs = omega (arith, e, last);
@@ -236,27 +235,27 @@ none-empty b q z s k st st₁ d d₁ l t g f h n o e =
 
 -- ---- the places as the code has them
 
-pub arr-at : (b s : List ℕ) (k p z : ℕ) {st : List ℕ} → z ≡ end_of b p
+pub arr-at : (b s : List ℕ) (k p z : ℕ) {st : State} → z ≡ end_of b p
     → Ready b s k (p + 3) (end_of b p) st × (end_of b p ≤ length b) × ((x : OptTerm) × Row b (f_opt_term x rnil) (p + 3) (end_of b p))
     → Ready b s k (p + 3) z st × ((x : OptTerm) × Row b (f_opt_term x rnil) (p + 3) z)
 arr-at b s k p z {st} e w = subst (λ (x : ℕ). Ready b s k (p + 3) x st × ((u : OptTerm) × Row b (f_opt_term u rnil) (p + 3) x)) (sym e) (w.0, w.2)
 
-pub arr-or : (b : List ℕ) (p z : ℕ) (s s₁ : List ℕ) (k : ℕ) (st st₁ d : List ℕ) {d₁ : List ℕ} → z ≡ end_of b p → OrEmpty b (p + 3) z s s₁ k st st₁ d d₁ → OrEmpty b (p + 3) (end_of b p) s s₁ k st st₁ d d₁
+pub arr-or : (b : List ℕ) (p z : ℕ) (s s₁ : List ℕ) (k : ℕ) (st st₁ : State) (d : List ℕ) {d₁ : List ℕ} → z ≡ end_of b p → OrEmpty b (p + 3) z s s₁ k st st₁ d d₁ → OrEmpty b (p + 3) (end_of b p) s s₁ k st st₁ d d₁
 arr-or b p z s s₁ k st st₁ d {d₁} e m = subst (λ (x : ℕ). OrEmpty b (p + 3) x s s₁ k st st₁ d d₁) e m
 
-pub at_place : (b s : List ℕ) (k q z : ℕ) {st : List ℕ} → q ≡ z → Ready b s k z (end_of b z) st × Stands b z → Ready b s k q (end_of b q) st × Stands b q
+pub at_place : (b s : List ℕ) (k q z : ℕ) {st : State} → q ≡ z → Ready b s k z (end_of b z) st × Stands b z → Ready b s k q (end_of b q) st × Stands b q
 at_place b s k q z {st} e w = subst (λ (x : ℕ). Ready b s k x (end_of b x) st × Stands b x) (sym e) w
 
-pub laid-at : (b : List ℕ) (q z : ℕ) (s s₁ : List ℕ) (k : ℕ) (st st₁ d d₁ : List ℕ) (al r : ℕ) → q ≡ z → Laid b q s s₁ k st st₁ d d₁ al r → Laid b z s s₁ k st st₁ d d₁ al r
+pub laid-at : (b : List ℕ) (q z : ℕ) (s s₁ : List ℕ) (k : ℕ) (st st₁ : State) (d d₁ : List ℕ) (al r : ℕ) → q ≡ z → Laid b q s s₁ k st st₁ d d₁ al r → Laid b z s s₁ k st st₁ d d₁ al r
 laid-at b q z s s₁ k st st₁ d d₁ al r e m = subst (λ (x : ℕ). Laid b x s s₁ k st st₁ d d₁ al r) e m
 
-pub catch-at : (b s : List ℕ) (k p q z : ℕ) {st : List ℕ} → q ≡ end_of b (p + 3) → z ≡ end_of b p
+pub catch-at : (b s : List ℕ) (k p q z : ℕ) {st : State} → q ≡ end_of b (p + 3) → z ≡ end_of b p
     → Ready b s k (end_of b (p + 3)) (end_of b p) st × (end_of b p ≤ length b) × ((x : OptTerm) × Row b (f_opt_term x rnil) (end_of b (p + 3)) (end_of b p))
     → Ready b s k q z st × ((x : OptTerm) × Row b (f_opt_term x rnil) q z)
 catch-at b s k p q z {st} e f w =
     subst (λ (x : ℕ). Ready b s k x z st × ((u : OptTerm) × Row b (f_opt_term u rnil) x z)) (sym e)
     (subst (λ (x : ℕ). Ready b s k (end_of b (p + 3)) x st × ((u : OptTerm) × Row b (f_opt_term u rnil) (end_of b (p + 3)) x)) (sym f) (w.0, w.2))
 
-pub catch-or : (b : List ℕ) (p q z : ℕ) (s s₁ : List ℕ) (k : ℕ) (st st₁ d d₁ : List ℕ) → q ≡ end_of b (p + 3) → z ≡ end_of b p → OrEmpty b q z s s₁ k st st₁ d d₁ → OrEmpty b (end_of b (p + 3)) (end_of b p) s s₁ k st st₁ d d₁
+pub catch-or : (b : List ℕ) (p q z : ℕ) (s s₁ : List ℕ) (k : ℕ) (st st₁ : State) (d d₁ : List ℕ) → q ≡ end_of b (p + 3) → z ≡ end_of b p → OrEmpty b q z s s₁ k st st₁ d d₁ → OrEmpty b (end_of b (p + 3)) (end_of b p) s s₁ k st st₁ d d₁
 catch-or b p q z s s₁ k st st₁ d d₁ e f m =
     subst (λ (x : ℕ). OrEmpty b (end_of b (p + 3)) x s s₁ k st st₁ d d₁) f (subst (λ (x : ℕ). OrEmpty b x z s s₁ k st st₁ d d₁) e m)

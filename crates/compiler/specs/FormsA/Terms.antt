@@ -1,48 +1,47 @@
 -- A term with its number reserved, and the term of each tag. Assumes nothing.
-use Rattle.std.specs.Prelude.{ℕ, suc, ◌+◌, ◌≤◌, ◌<◌, ◌≡◌, List, get_or, set}
+use Rattle.std.specs.Prelude.{ℕ, suc, ◌+◌, ◌≤◌, ◌<◌, ◌≡◌, List, get_or}
 use Rattle.std.proofs.Common.{arith, add-one, subst, ◌∙◌, inl}
 use Rattle.tree.specs.Rose.{end_of}
 use Rattle.rules.specs.Rules.{term}
 use Rattle.reads.specs.Shapes.{term-tag}
-use Rattle.puts.specs.State.{num, off, late, Own}
+use Rattle.puts.specs.declared.state.State.{State}
+use Rattle.puts.specs.State.{num, off, late, Own, with_num}
 use Rattle.puts.specs.Rooms.{slot-own}
 use Rattle.cells.specs.Cells.{env_of}
 use Rattle.compiler.specs.Post.{Ready, Stands, Placed, Did, Laid}
-use Rattle.compiler.specs.Common.{num-num, num-off, num-ers, num-len}
+use Rattle.compiler.specs.Common.{num-num, num-off, num-ers}
 
 -- its own number is reserved: it is ready at the place behind p
-pub number-ready : (b s : List ℕ) (k p o : ℕ) (st st₁ : List ℕ) → Ready b s k p (end_of b p) st → o ≡ off st → st₁ ≡ set st 0 (num st + 1) → Ready b s k (p + 1) (end_of b p) st₁ × Placed o st₁
+pub number-ready : (b s : List ℕ) (k p o : ℕ) (st st₁ : State) → Ready b s k p (end_of b p) st → o ≡ off st → st₁ ≡ with_num st (num st + 1) → Ready b s k (p + 1) (end_of b p) st₁ × Placed o st₁
 number-ready b s k p o st st₁ y g e = (
   record {
     small = y.small;
-    three = num-len st st₁ (num st + 1) e ∙ y.three;
     view = y.view;
     seen = y.seen;
     order = omega arith;
     within = y.within;
     spare = omega (arith, y.spare);
-    nums = omega (arith, y.nums, num-num st st₁ (num st + 1) y.three e);
+    nums = omega (arith, y.nums, num-num st st₁ (num st + 1) e);
     offs = omega (arith, y.offs, num-off st st₁ (num st + 1) e);
     errs = omega (arith, y.errs, num-ers st st₁ (num st + 1) e);
   },
   inl (omega (arith, g, num-off st st₁ (num st + 1) e)),
 )
 
-pub laid_of : (b : List ℕ) (p : ℕ) (s s₁ : List ℕ) (k o : ℕ) (st st₁ st₂ d d₁ : List ℕ) (al r : ℕ) → Ready b s k p (end_of b p) st → Stands b p → o ≡ off st → st₁ ≡ set st 0 (num st + 1)
+pub laid_of : (b : List ℕ) (p : ℕ) (s s₁ : List ℕ) (k o : ℕ) (st st₁ st₂ : State) (d d₁ : List ℕ) (al r : ℕ) → Ready b s k p (end_of b p) st → Stands b p → o ≡ off st → st₁ ≡ with_num st (num st + 1)
     → Did b p s s₁ k o st₁ st₂ d d₁ al r → Laid b p s s₁ k st st₂ d d₁ al r
 laid_of b p s s₁ k o st st₁ st₂ d d₁ al r y g i e m =
     record {
       is = λ vw v t a.
           let q = term vw.top t (env_of vw b s k) (suc (num st)) al in
           let h : Own q o st₁ st₂ d d₁ × (r ≡ q.tail) =
-          subst (λ (n : ℕ). let u = term vw.top t (env_of vw b s k) n al in Own u o st₁ st₂ d d₁ × (r ≡ u.tail)) (num-num st st₁ (num st + 1) y.three e ∙ add-one (num st)) (m.is vw v t a) in
-          (slot-own q st st₁ st₂ d d₁ y.three low e (subst (λ (n : ℕ). Own q n st₁ st₂ d d₁) i h.0), h.1);
+          subst (λ (n : ℕ). let u = term vw.top t (env_of vw b s k) n al in Own u o st₁ st₂ d d₁ × (r ≡ u.tail)) (num-num st st₁ (num st + 1) e ∙ add-one (num st)) (m.is vw v t a) in
+          (slot-own q st st₁ st₂ d d₁ low e (subst (λ (n : ℕ). Own q n st₁ st₂ d d₁) i h.0), h.1);
       paid =
           record {
             kept = m.paid.kept;
             same = m.paid.same;
-            three = m.paid.three ∙ num-len st st₁ (num st + 1) e;
-            nums = omega (arith, m.paid.nums, num-num st st₁ (num st + 1) y.three e);
+            nums = omega (arith, m.paid.nums, num-num st st₁ (num st + 1) e);
             offs = omega (arith, m.paid.offs, num-off st st₁ (num st + 1) e);
             errs = omega (arith, m.paid.errs, num-ers st st₁ (num st + 1) e);
           };

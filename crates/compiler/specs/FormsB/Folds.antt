@@ -1,7 +1,7 @@
 -- Folds: "source, pattern, init, update, projection; update and projection under the variables." Assumes nothing.
 use Prim.Native.Nat.{ℕ, zero, suc, ◌+◌, ◌-◌, ◌*◌, ◌≤◌, ◌<◌}
 use Rattle.std.proofs.Common.{arith, ap, ap₂, ◌∙◌, length-append, get_or-set_other}
-use Rattle.std.specs.Prelude.{◌≡◌, refl, true, false, eqb, length, get_or, set, take}
+use Rattle.std.specs.Prelude.{◌≡◌, refl, true, false, eqb, length, get_or, take}
 use Rattle.std.proofs.Math.Path.{sym, subst}
 use Rattle.std.proofs.Math.Bool.{Bool, cond}
 use mathlib.Core.List.{List, [], ◌∷◌, ◌++◌, append-nil}
@@ -25,7 +25,8 @@ use Rattle.rules.specs.Rules.{term, waiting, end_of_fold, fold_error}
 use Rattle.reads.specs.Bytes.{TermAt, PatternAt, name_at}
 use Rattle.reads.specs.Widths.{fold_kind}
 use Rattle.reads.specs.Shapes.{on-arity-cons, text-length}
-use Rattle.puts.specs.State.{num, ers, Put}
+use Rattle.puts.specs.declared.state.State.{State}
+use Rattle.puts.specs.State.{num, ers, Put, with_ers}
 use Rattle.puts.specs.Rooms.{put_then, put-none, put-error}
 use Rattle.cells.specs.Cells.{View, Seen, env_of, closed, unlinked, unlinked_all, Opened, number_at}
 use Rattle.cells.specs.Leaving.{length-closed, HeadBelow, unlinked-at, head-kept, length-unlinked}
@@ -117,11 +118,11 @@ error-long : (c : Top) (f : Name) (a : ℕ) → 11 ≡ length (err_bytes 2 (fold
 unfolding fold_error field number
 error-long c f a = refl
 
-pub fold-fails : (b : List ℕ) (p home at len a y : ℕ) (c : Top) (st st₁ d d₁ : List ℕ) → length st ≡ 3 → home ≡ home_of c → at ≡ p + 6 → len ≡ end_of b (p + 3) - (p + 6) → end_of b (p + 3) ≤ length b
-    → y ≡ ers st → st₁ ≡ set st 2 (ers st + 11) → d₁ ≡ overlay d y (field 0x2B (number 2 home ++ (number 2 at ++ number 2 len) ++ number 2 a))
+pub fold-fails : (b : List ℕ) (p home at len a y : ℕ) (c : Top) (st st₁ : State) (d d₁ : List ℕ) → home ≡ home_of c → at ≡ p + 6 → len ≡ end_of b (p + 3) - (p + 6) → end_of b (p + 3) ≤ length b
+    → y ≡ ers st → st₁ ≡ with_ers st (ers st + 11) → d₁ ≡ overlay d y (field 0x2B (number 2 home ++ (number 2 at ++ number 2 len) ++ number 2 a))
     → Put [] (fold_error c (name_at b (p + 3)) a ∷ []) st st₁ d d₁
-fold-fails b p home at len a y c st st₁ d d₁ t h i j f e g l =
-    put-error (fold_error c (name_at b (p + 3)) a) 11 y st st₁ d d₁ t (error-long c (name_at b (p + 3)) a) e g (l ∙ ap (overlay d y) (fold-error b p home at len a c h i j f))
+fold-fails b p home at len a y c st st₁ d d₁ h i j f e g l =
+    put-error (fold_error c (name_at b (p + 3)) a) 11 y st st₁ d d₁ (error-long c (name_at b (p + 3)) a) e g (l ∙ ap (overlay d y) (fold-error b p home at len a c h i j f))
 
 -- ---- projection
 
@@ -152,7 +153,7 @@ kind-small x a = go (eqb a 2) (eqb a 3) (same x (ascii "reduce")) (same x (ascii
     go false true v false = omega arith
     go false false v w = omega arith
 
-module _ (b : List ℕ) (p x u a kind : ℕ) (s : List ℕ) (k : ℕ) (st : List ℕ) (y : Ready b s k (end_of b u) (end_of b p) st) (g : pieces.Folding b p x u a kind) where
+module _ (b : List ℕ) (p x u a kind : ℕ) (s : List ℕ) (k : ℕ) (st : State) (y : Ready b s k (end_of b u) (end_of b p) st) (g : pieces.Folding b p x u a kind) where
   -- there is one
   projection : kind ≡ 2 → Stands b (end_of b u) × (end_of b (end_of b u) ≤ end_of b p)
   projection h =
@@ -163,7 +164,7 @@ module _ (b : List ℕ) (p x u a kind : ℕ) (s : List ℕ) (k : ℕ) (st : List
   pub project-ready : kind ≡ 2 → Ready b s k (end_of b u) (end_of b (end_of b u)) st × Stands b (end_of b u)
   project-ready h = let l = projection h in (ready-part b s k (end_of b u) (end_of b u) (end_of b p) (end_of b (end_of b u)) st y (omega arith) (omega arith) l.1, l.0)
 
-  pub project-two : (s₁ st₁ d d₁ : List ℕ) (al r : ℕ) → kind ≡ 2 → Laid b (end_of b u) s s₁ k st st₁ d d₁ al r → Projected b p u a s s₁ k st st₁ d d₁ al r
+  pub project-two : (s₁ : List ℕ) (st₁ : State) (d d₁ : List ℕ) (al r : ℕ) → kind ≡ 2 → Laid b (end_of b u) s s₁ k st st₁ d d₁ al r → Projected b p u a s s₁ k st st₁ d d₁ al r
   unfolding ends_of
   project-two s₁ st₁ d d₁ al r h m =
       let i : fold_kind (text_of b (p + 3)) a ≡ 2 = sym g.kinds ∙ h in
@@ -177,25 +178,24 @@ module _ (b : List ℕ) (p x u a kind : ℕ) (s : List ℕ) (k : ℕ) (st : List
         paid = record {
           kept = m.paid.kept;
           same = m.paid.same;
-          three = m.paid.three;
           nums = omega (arith, m.paid.nums, l);
           offs = omega (arith, m.paid.offs, l);
           errs = omega (arith, m.paid.errs, l);
         };
       }
 
-  pub project-fail : (st₁ d d₁ : List ℕ) (home at len e al : ℕ) → kind ≡ 3 → home ≡ get_or s 3 0 → at ≡ p + 6 → len ≡ x - p - 6 → e ≡ ers st → st₁ ≡ set st 2 (ers st + 11)
+  pub project-fail : (st₁ : State) (d d₁ : List ℕ) (home at len e al : ℕ) → kind ≡ 3 → home ≡ get_or s 3 0 → at ≡ p + 6 → len ≡ x - p - 6 → e ≡ ers st → st₁ ≡ with_ers st (ers st + 11)
       → d₁ ≡ overlay d e (field 0x2B (number 2 home ++ (number 2 at ++ number 2 len) ++ number 2 a)) → Projected b p u a s s k st st₁ d d₁ al 0
   unfolding ends_of
   project-fail st₁ d d₁ home at len e al h i j l m n q =
       let f : fold_kind (text_of b (p + 3)) a ≡ 3 = sym g.kinds ∙ h in
-      let t = set-ers st st₁ (ers st + 11) y.three n in
+      let t = set-ers st st₁ (ers st + 11) n in
       let z = y.order in
       record {
         is = λ vw v ts w o.
             let c : home ≡ home_of vw.top = i ∙ v.base.home in
-            rw f (fold-fails b p home at len a e vw.top st st₁ d d₁ y.three c j (omega (arith, l, g.source)) g.name m n q, refl);
-        paid = record { kept = refl; same = refl; three = t.same; nums = omega (arith, t.num, z); offs = omega (arith, t.off, z); errs = omega (arith, t.ers, z) };
+            rw f (fold-fails b p home at len a e vw.top st st₁ d d₁ c j (omega (arith, l, g.source)) g.name m n q, refl);
+        paid = record { kept = refl; same = refl; nums = omega (arith, t.num, z); offs = omega (arith, t.off, z); errs = omega (arith, t.ers, z) };
       }
 
   pub project-none : (d : List ℕ) (al : ℕ) → (kind ≡ 2 → ⊥) → (kind ≡ 3 → ⊥) → Projected b p u a s s k st st d d al 0
@@ -204,7 +204,7 @@ module _ (b : List ℕ) (p x u a kind : ℕ) (s : List ℕ) (k : ℕ) (st : List
       let z = y.order in
       record {
         is = λ vw v ts w o. rw (ne_eqb (fold_kind (text_of b (p + 3)) a) 2 (λ e. h (g.kinds ∙ e)), ne_eqb (fold_kind (text_of b (p + 3)) a) 3 (λ e. i (g.kinds ∙ e))) (put-none st d, refl);
-        paid = record { kept = refl; same = refl; three = refl; nums = omega (arith, z); offs = omega (arith, z); errs = omega (arith, z) };
+        paid = record { kept = refl; same = refl; nums = omega (arith, z); offs = omega (arith, z); errs = omega (arith, z) };
       }
 
 -- ---- rows that leave the view keep their numbers
@@ -258,7 +258,7 @@ pub record Unnoted (b s s' : List ℕ) (k i : ℕ) : Type 0 where
       → ((vw : View) → Seen vw b s k → Seen vw b s' i × (env_of vw b s' i ≡ push_vars (vars x) (env_of vw b s k))) × (pat_at s' x k ≡ pat_at s x k)
   pub back : Opened s s' k i
 
-module _ (b : List ℕ) (p x u a kind : ℕ) (s : List ℕ) (k i : ℕ) (st : List ℕ) (y : Ready b s i u (end_of b p) st) (ki : k ≤ i) (w : (vw : View) × Seen vw b s k) (n : Noted b s k i) (t : Stands b u)
+module _ (b : List ℕ) (p x u a kind : ℕ) (s : List ℕ) (k i : ℕ) (st : State) (y : Ready b s i u (end_of b p) st) (ki : k ≤ i) (w : (vw : View) × Seen vw b s k) (n : Noted b s k i) (t : Stands b u)
     (g : pieces.Folding b p x u a kind) where
   -- the update ends within the fold
   update-end : end_of b u ≤ end_of b p
@@ -269,7 +269,6 @@ module _ (b : List ℕ) (p x u a kind : ℕ) (s : List ℕ) (k i : ℕ) (st : Li
     update-on =
         record {
           small = y.small;
-          three = y.three;
           view = w.0;
           seen = ((m₁.is n.x n.q n.some n.at n.lasts).0 w.0 w.1).0;
           order = y.order;
@@ -283,11 +282,11 @@ module _ (b : List ℕ) (p x u a kind : ℕ) (s : List ℕ) (k i : ℕ) (st : Li
     pub update-ready : Ready b s₁ i u (end_of b u) st × Stands b u
     update-ready = (ready-part b s₁ i u u (end_of b p) (end_of b u) st update-on (omega arith) (omega arith) update-end, t)
 
-    module _ (s₂ st₁ d d₁ : List ℕ) (r₁ : ℕ) (m₂ : Laid b u s₁ s₂ i st st₁ d d₁ 0 r₁) where
+    module _ (s₂ : List ℕ) (st₁ : State) (d d₁ : List ℕ) (r₁ : ℕ) (m₂ : Laid b u s₁ s₂ i st st₁ d d₁ 0 r₁) where
       pub update-project : Ready b s₂ i (end_of b u) (end_of b p) st₁
       update-project = ready-after b s₁ s₂ i u (u + 1) (end_of b u) (end_of b p) st st₁ update-on (omega arith) (omega arith) update-end m₂.paid
 
-      module _ (s₃ st₂ d₂ : List ℕ) (al r : ℕ) (m₃ : Projected b p u a s₂ s₃ i st₁ st₂ d₁ d₂ al r) where
+      module _ (s₃ : List ℕ) (st₂ : State) (d₂ : List ℕ) (al r : ℕ) (m₃ : Projected b p u a s₂ s₃ i st₁ st₂ d₁ d₂ al r) where
         update-seen : Seen w.0 b s₃ i
         unfolding update-on
         update-seen =
@@ -307,7 +306,6 @@ module _ (b : List ℕ) (p x u a kind : ℕ) (s : List ℕ) (k i : ℕ) (st : Li
               paid = record {
                 kept = ap (λ (l : List ℕ). take (4 * k) l) (ee ∙ ap (λ (j : ℕ). closed s₃ k i j) ce) ∙ opened-close s s₁ s₃ k i m₁.back (m₃.paid.same ∙ m₂.paid.same ∙ m₁.back.same) (m₃.paid.kept ∙ m₂.paid.kept);
                 same = ap length ee ∙ length-closed s₃ k i c ∙ m₃.paid.same ∙ m₂.paid.same ∙ m₁.back.same;
-                three = m₃.paid.three ∙ m₂.paid.three;
                 nums = omega (arith, m₂.paid.nums, m₃.paid.nums);
                 offs = omega (arith, m₂.paid.offs, m₃.paid.offs);
                 errs = omega (arith, m₂.paid.errs, m₃.paid.errs);

@@ -1,6 +1,6 @@
 -- The members of array and object patterns: loops. What is still due is stated by the members that are left: whatever the rules give for them, they give for
 -- all. Assumes nothing.
-use Rattle.std.specs.Prelude.{ℕ, suc, ◌+◌, ◌*◌, ◌≤◌, ◌<◌, ◌≡◌, refl, Bool, true, false, List, [], ◌∷◌, ◌++◌, ltb, length, set, take}
+use Rattle.std.specs.Prelude.{ℕ, suc, ◌+◌, ◌*◌, ◌≤◌, ◌<◌, ◌≡◌, refl, Bool, true, false, List, [], ◌∷◌, ◌++◌, ltb, length, take}
 use Rattle.std.proofs.Common.{arith, sym, ap, ap₂, subst, ◌∙◌, ltb-true, ltb-false}
 use Rattle.fields.specs.Number.{number}
 use Rattle.fields.specs.Field.{field}
@@ -17,7 +17,8 @@ use Rattle.rules.specs.Rules.{term, pattern, elements, keyed}
 use Rattle.reads.specs.Bytes.{TermAt, PatternAt}
 use Rattle.reads.specs.Widths.{pat_width, pats_width, keyed_width}
 use Rattle.reads.specs.Parts.{on-patterns-cons, on-patterns-nil, on-keyed-cons, on-keyed-nil, row-end}
-use Rattle.puts.specs.State.{num, off, ers, Put}
+use Rattle.puts.specs.declared.state.State.{State}
+use Rattle.puts.specs.State.{num, off, ers, Put, with_num, with_off}
 use Rattle.puts.specs.Rooms.{put_then, put-none, put_one}
 use Rattle.cells.specs.Cells.{View, Seen, env_of, number_at, last_at}
 use Rattle.cells.specs.Notes.{lasts_of, notes_in, notes_all, notes_keyed, pat_at, pats_at, keyed_at, places_in, places_all, places_keyed}
@@ -41,18 +42,18 @@ notes-on b s s' k j r e f g i l m = go (ltb i j) refl
 -- ---- arrays
 
 -- the members xs, the first of index i and number n, were compiled; their notes are rows from k on
-pub record ItemsIs (c : Top) (e : Env) (pl i n : ℕ) (xs : Patterns) (k : ℕ) (s' st st' d d' : List ℕ) (r : ℕ) : Type 0 where
+pub record ItemsIs (c : Top) (e : Env) (pl i n : ℕ) (xs : Patterns) (k : ℕ) (s' : List ℕ) (st st' : State) (d d' : List ℕ) (r : ℕ) : Type 0 where
   pub put : Put (elements c xs i pl e n).more (elements c xs i pl e n).errs st st' d d'
   pub pats : pats_at s' xs k ≡ (elements c xs i pl e n).made
   pub lasts : lasts_of s' k (notes_all xs) ≡ places_all xs
   pub end : r ≡ k + notes_all xs
 
-pub items-none : (c : Top) (e : Env) (pl i n k : ℕ) (s' st d : List ℕ) → ItemsIs c e pl i n ps_nil k s' st st d d k
+pub items-none : (c : Top) (e : Env) (pl i n k : ℕ) (s' : List ℕ) (st : State) (d : List ℕ) → ItemsIs c e pl i n ps_nil k s' st st d d k
 unfolding term pat_at places_in notes_in lasts_of
 items-none c e pl i n k s' st d = record { put = put-none st d; pats = refl; lasts = refl; end = omega arith }
 
 -- its Int key, the pattern, and those behind it
-pub items-one : (b : List ℕ) (p : ℕ) (vw : View) (e : Env) (pl i : ℕ) (x : Pattern) (xs : Patterns) (k j r : ℕ) (s s₁ s' st st₁ st₂ st' d d₁ d₂ d' : List ℕ)
+pub items-one : (b : List ℕ) (p : ℕ) (vw : View) (e : Env) (pl i : ℕ) (x : Pattern) (xs : Patterns) (k j r : ℕ) (s s₁ s' : List ℕ) (st st₁ st₂ st' : State) (d d₁ d₂ d' : List ℕ)
     → Put (record { place = pl; node = n_int i } ∷ []) [] st st₁ d d₁
     → Patterned b p s s₁ k (num st) st₁ st₂ d₁ d₂ j → Seen vw b s k → env_of vw b s k ≡ e → PatternAt b x p
     → take (4 * j) s' ≡ take (4 * j) s₁ → ItemsIs vw.top e pl (i + 1) (num st₂) xs j s' st₂ st' d₂ d' r
@@ -98,13 +99,13 @@ items-one b p vw e pl i x xs k j r s s₁ s' st st₁ st₂ st' d d₁ d₂ d' p
 
 -- ---- the loop over the members of the array pattern at q: the next one is at p and has the index i; its notes start at row j
 
-pub record ItemsLeft (vw : View) (b : List ℕ) (q pl : ℕ) (xs : Patterns) (e : Env) (k₀ : ℕ) (st₀ d₀ : List ℕ) (p i j : ℕ) (s st d : List ℕ) : Type 0 where
+pub record ItemsLeft (vw : View) (b : List ℕ) (q pl : ℕ) (xs : Patterns) (e : Env) (k₀ : ℕ) (st₀ : State) (d₀ : List ℕ) (p i j : ℕ) (s : List ℕ) (st : State) (d : List ℕ) : Type 0 where
   pub rest : Patterns
   pub at : Row b (f_patterns rest rnil) p (end_of b q)
-  pub goes : (s' st' d' : List ℕ) (r : ℕ) → take (4 * j) s' ≡ take (4 * j) s → ItemsIs vw.top e pl i (num st) rest j s' st st' d d' r
+  pub goes : (s' : List ℕ) (st' : State) (d' : List ℕ) (r : ℕ) → take (4 * j) s' ≡ take (4 * j) s → ItemsIs vw.top e pl i (num st) rest j s' st st' d d' r
       → ItemsIs vw.top e pl 0 (num st₀) xs k₀ s' st₀ st' d₀ d' r
 
-pub record ItemsGo (b : List ℕ) (q : ℕ) (s₀ : List ℕ) (k₀ : ℕ) (st₀ d₀ : List ℕ) (p i j : ℕ) (s st d : List ℕ) : Type 0 where
+pub record ItemsGo (b : List ℕ) (q : ℕ) (s₀ : List ℕ) (k₀ : ℕ) (st₀ : State) (d₀ : List ℕ) (p i j : ℕ) (s : List ℕ) (st : State) (d : List ℕ) : Type 0 where
   pub goes : (vw : View) → Seen vw b s₀ k₀ → (xs : Patterns) (pl : ℕ) → Row b (f_patterns xs rnil) (q + 3) (end_of b q)
       → ItemsLeft vw b q pl xs (env_of vw b s₀ k₀) k₀ st₀ d₀ p i j s st d
   pub wide : (xs : Patterns) → Row b (f_patterns xs rnil) (q + 3) (end_of b q)
@@ -120,7 +121,11 @@ pub record ItemsGo (b : List ℕ) (q : ℕ) (s₀ : List ℕ) (k₀ : ℕ) (st�
   pub size : length d ≡ length d₀
   pub few : i + q ≤ p
 
-pub items-start : (b : List ℕ) (q : ℕ) (s : List ℕ) (k : ℕ) (st d : List ℕ) → Ready b s k (q + 3) (end_of b q) st → ((xs : Patterns) × Row b (f_patterns xs rnil) (q + 3) (end_of b q)) → end_of b q ≤ length b
+-- p is where the next one stands
+pub items-on : (b : List ℕ) (q : ℕ) (s₀ : List ℕ) (k₀ : ℕ) (st₀ : State) (d₀ : List ℕ) (n p i j : ℕ) (s : List ℕ) (st : State) (d : List ℕ) → n ≡ p → ItemsGo b q s₀ k₀ st₀ d₀ n i j s st d → ItemsGo b q s₀ k₀ st₀ d₀ p i j s st d
+items-on b q s₀ k₀ st₀ d₀ n p i j s st d e g = subst (λ (r : ℕ). ItemsGo b q s₀ k₀ st₀ d₀ r i j s st d) e g
+
+pub items-start : (b : List ℕ) (q : ℕ) (s : List ℕ) (k : ℕ) (st : State) (d : List ℕ) → Ready b s k (q + 3) (end_of b q) st → ((xs : Patterns) × Row b (f_patterns xs rnil) (q + 3) (end_of b q)) → end_of b q ≤ length b
     → ItemsGo b q s k st d (q + 3) 0 k s st d
 items-start b q s k st d y x f =
     record {
@@ -133,7 +138,7 @@ items-start b q s k st d y x f =
       order = omega arith;
       notes = λ i l m. absurd (omega (arith, l, m));
       rows = omega arith;
-      paid = record { kept = refl; same = refl; three = refl; nums = omega arith; offs = omega arith; errs = omega arith };
+      paid = record { kept = refl; same = refl; nums = omega arith; offs = omega arith; errs = omega arith };
       size = refl;
       few = omega arith;
     }
@@ -143,23 +148,22 @@ int-long : (i : ℕ) → 11 ≡ length (field 0x53 (number 8 i))
 unfolding field number
 int-long i = refl
 
-pub int-put : (pl i x : ℕ) (st st₁ d d₁ : List ℕ) → length st ≡ 3 → x ≡ off st → st₁ ≡ set (set st 0 (num st + 1)) 1 (off st + 11) → d₁ ≡ overlay d x (field 0x53 (number 8 i))
+pub int-put : (pl i x : ℕ) (st st₁ : State) (d d₁ : List ℕ) → x ≡ off st → st₁ ≡ with_off (with_num st (num st + 1)) (off st + 11) → d₁ ≡ overlay d x (field 0x53 (number 8 i))
     → Put (record { place = pl; node = n_int i } ∷ []) [] st st₁ d d₁
-int-put pl i x st st₁ d d₁ t e f h = put_one (record { place = pl; node = n_int i }) 11 x st st₁ d d₁ t (int-long i) e f h
+int-put pl i x st st₁ d d₁ e f h = put_one (record { place = pl; node = n_int i }) 11 x st st₁ d d₁ (int-long i) e f h
 
-module _ (b : List ℕ) (q : ℕ) (s₀ : List ℕ) (k₀ : ℕ) (st₀ d₀ : List ℕ) (p i j : ℕ) (s st d : List ℕ) (o : ItemsGo b q s₀ k₀ st₀ d₀ p i j s st d) where
+module _ (b : List ℕ) (q : ℕ) (s₀ : List ℕ) (k₀ : ℕ) (st₀ : State) (d₀ : List ℕ) (p i j : ℕ) (s : List ℕ) (st : State) (d : List ℕ) (o : ItemsGo b q s₀ k₀ st₀ d₀ p i j s st d) where
   -- where there is a next one
   items_at : p < end_of b q → ((x : Pattern) × PatternAt b x p) × (end_of b p ≤ end_of b q)
   items_at l = on-patterns-cons b p (end_of b q) (λ _. ((x : Pattern) × PatternAt b x p) × (end_of b p ≤ end_of b q)) l (λ x xs a e w. ((x, a), e)) o.some.0 o.some.1
 
-  pub items-pattern : p < end_of b q → (x : ℕ) (st₁ : List ℕ) → x ≡ off st → st₁ ≡ set (set st 0 (num st + 1)) 1 (off st + 11)
+  pub items-pattern : p < end_of b q → (x : ℕ) (st₁ : State) → x ≡ off st → st₁ ≡ with_off (with_num st (num st + 1)) (off st + 11)
       → Ready b s j (p + 1) (end_of b p) st₁ × Spare b s j p × ((y : Pattern) × PatternAt b y p) × (num st < 65536)
   items-pattern l x st₁ e f =
       let y = o.ready in
-      let t = set_both st st₁ (num st + 1) (off st + 11) y.three f in (
+      let t = set_both st st₁ (num st + 1) (off st + 11) f in (
         record {
           small = y.small;
-          three = t.same ∙ y.three;
           view = y.view;
           seen = y.seen;
           order = omega arith;
@@ -174,7 +178,7 @@ module _ (b : List ℕ) (q : ℕ) (s₀ : List ℕ) (k₀ : ℕ) (st₀ d₀ : L
         omega (arith, y.nums, l),
       )
 
-  pub items_more : (s₁ st₁ st₂ d₁ d₂ : List ℕ) (x r : ℕ) → p < end_of b q → x ≡ off st → st₁ ≡ set (set st 0 (num st + 1)) 1 (off st + 11) → d₁ ≡ overlay d x (field 0x53 (number 8 i))
+  pub items_more : (s₁ : List ℕ) (st₁ st₂ : State) (d₁ d₂ : List ℕ) (x r : ℕ) → p < end_of b q → x ≡ off st → st₁ ≡ with_off (with_num st (num st + 1)) (off st + 11) → d₁ ≡ overlay d x (field 0x53 (number 8 i))
       → Patterned b p s s₁ j (num st) st₁ st₂ d₁ d₂ r → ItemsGo b q s₀ k₀ st₀ d₀ (end_of b p) (i + 1) r s₁ st₂ d₂
   unfolding pat_width
   items_more s₁ st₁ st₂ d₁ d₂ x r l e f h m =
@@ -185,7 +189,6 @@ module _ (b : List ℕ) (q : ℕ) (s₀ : List ℕ) (k₀ : ℕ) (st₀ d₀ : L
         fits = o.fits;
         ready = record {
           small = y.small;
-          three = m.paid.three ∙ t.same ∙ y.three;
           view = y.view;
           seen = (m.seen y.view y.seen).0;
           order = (items_at l).1;
@@ -202,20 +205,19 @@ module _ (b : List ℕ) (q : ℕ) (s₀ : List ℕ) (k₀ : ℕ) (st₀ d₀ : L
         paid = record {
           kept = kept_less k₀ j s s₁ o.order m.paid.kept ∙ o.paid.kept;
           same = m.paid.same ∙ o.paid.same;
-          three = m.paid.three ∙ t.same ∙ o.paid.three;
           nums = omega (arith, t.num, m.paid.nums, o.paid.nums);
           offs = omega (arith, t.off, m.paid.offs, o.paid.offs);
           errs = omega (arith, t.ers, m.paid.errs, o.paid.errs);
         };
-        size = (m.is y.view y.seen (items_at l).0.0 0 (items_at l).0.1).0.size ∙ (int-put 0 i x st st₁ d d₁ y.three e f h).size ∙ o.size;
+        size = (m.is y.view y.seen (items_at l).0.0 0 (items_at l).0.1).0.size ∙ (int-put 0 i x st st₁ d d₁ e f h).size ∙ o.size;
         few = omega (arith, o.few);
       }
     where
       y : Ready b s j p (end_of b q) st
       y = o.ready
 
-      t : Stored st st₁ (num st + 1) (off st + 11) (ers st)
-      t = set_both st st₁ (num st + 1) (off st + 11) y.three f
+      t : Stored st₁ (num st + 1) (off st + 11) (ers st)
+      t = set_both st st₁ (num st + 1) (off st + 11) f
 
       up : j ≤ r
       up = omega (arith, (m.is y.view y.seen (items_at l).0.0 0 (items_at l).0.1).4)
@@ -223,7 +225,7 @@ module _ (b : List ℕ) (q : ℕ) (s₀ : List ℕ) (k₀ : ℕ) (st₀ d₀ : L
       left : (vw : View) → Seen vw b s₀ k₀ → (xs : Patterns) (pl : ℕ) → ItemsLeft vw b q pl xs (env_of vw b s₀ k₀) k₀ st₀ d₀ p i j s st d → ItemsLeft vw b q pl xs (env_of vw b s₀ k₀) k₀ st₀ d₀ (end_of b p) (i + 1) r s₁ st₂ d₂
       left vw g xs pl a =
           on-patterns-cons b p (end_of b q)
-          (λ ys. ((s' st' d' : List ℕ) (u : ℕ) → take (4 * j) s' ≡ take (4 * j) s → ItemsIs vw.top (env_of vw b s₀ k₀) pl i (num st) ys j s' st st' d d' u → ItemsIs vw.top (env_of vw b s₀ k₀) pl 0 (num st₀) xs k₀ s' st₀ st' d₀ d' u)
+          (λ ys. ((s' : List ℕ) (st' : State) (d' : List ℕ) (u : ℕ) → take (4 * j) s' ≡ take (4 * j) s → ItemsIs vw.top (env_of vw b s₀ k₀) pl i (num st) ys j s' st st' d d' u → ItemsIs vw.top (env_of vw b s₀ k₀) pl 0 (num st₀) xs k₀ s' st₀ st' d₀ d' u)
           → ItemsLeft vw b q pl xs (env_of vw b s₀ k₀) k₀ st₀ d₀ (end_of b p) (i + 1) r s₁ st₂ d₂)
           l
           (λ z zs c n w k.
@@ -233,7 +235,7 @@ module _ (b : List ℕ) (q : ℕ) (s₀ : List ℕ) (k₀ : ℕ) (st₀ d₀ : L
             at = w;
             goes = λ s' st' d' u kp is.
                 k s' st' d' u (kept_less j r s₁ s' up kp ∙ m.paid.kept)
-                (items-one b p vw (env_of vw b s₀ k₀) pl i z zs j r u s s₁ s' st st₁ st₂ st' d d₁ d₂ d' (int-put pl i x st st₁ d d₁ y.three e f h) m v.0 v.1 c kp is);
+                (items-one b p vw (env_of vw b s₀ k₀) pl i z zs j r u s s₁ s' st st₁ st₂ st' d d₁ d₂ d' (int-put pl i x st st₁ d d₁ e f h) m v.0 v.1 c kp is);
           })
           a.rest a.at a.goes
 
@@ -266,7 +268,7 @@ module _ (b : List ℕ) (q : ℕ) (s₀ : List ℕ) (k₀ : ℕ) (st₀ d₀ : L
       done vw xs pl a =
           let i₀ : ItemsIs vw.top (env_of vw b s₀ k₀) pl 0 (num st₀) xs k₀ s st₀ st d₀ d j =
           on-patterns-nil b p (end_of b q)
-          (λ ys. ((s' st' d' : List ℕ) (u : ℕ) → take (4 * j) s' ≡ take (4 * j) s → ItemsIs vw.top (env_of vw b s₀ k₀) pl i (num st) ys j s' st st' d d' u → ItemsIs vw.top (env_of vw b s₀ k₀) pl 0 (num st₀) xs k₀ s' st₀ st' d₀ d' u)
+          (λ ys. ((s' : List ℕ) (st' : State) (d' : List ℕ) (u : ℕ) → take (4 * j) s' ≡ take (4 * j) s → ItemsIs vw.top (env_of vw b s₀ k₀) pl i (num st) ys j s' st st' d d' u → ItemsIs vw.top (env_of vw b s₀ k₀) pl 0 (num st₀) xs k₀ s' st₀ st' d₀ d' u)
           → ItemsIs vw.top (env_of vw b s₀ k₀) pl 0 (num st₀) xs k₀ s st₀ st d₀ d j)
           l (λ k. k s st d j refl (items-none vw.top (env_of vw b s₀ k₀) pl i (num st) j s st d)) a.rest a.at a.goes in
           (i₀.put, i₀.pats, i₀.lasts, i₀.end)
@@ -280,18 +282,18 @@ module _ (b : List ℕ) (q : ℕ) (s₀ : List ℕ) (k₀ : ℕ) (st₀ d₀ : L
 -- ---- objects
 
 -- the entries xs, from the number n on, were compiled; their notes are rows from k on
-pub record KeyedIs (c : Top) (e : Env) (pl n : ℕ) (xs : PatEntries) (k : ℕ) (s' st st' d d' : List ℕ) (r : ℕ) : Type 0 where
+pub record KeyedIs (c : Top) (e : Env) (pl n : ℕ) (xs : PatEntries) (k : ℕ) (s' : List ℕ) (st st' : State) (d d' : List ℕ) (r : ℕ) : Type 0 where
   pub put : Put (keyed c xs pl e n).more (keyed c xs pl e n).errs st st' d d'
   pub pats : keyed_at s' xs k ≡ (keyed c xs pl e n).made
   pub lasts : lasts_of s' k (notes_keyed xs) ≡ places_keyed xs
   pub end : r ≡ k + notes_keyed xs
 
-pub keyed-none : (c : Top) (e : Env) (pl n k : ℕ) (s' st d : List ℕ) → KeyedIs c e pl n pes_nil k s' st st d d k
+pub keyed-none : (c : Top) (e : Env) (pl n k : ℕ) (s' : List ℕ) (st : State) (d : List ℕ) → KeyedIs c e pl n pes_nil k s' st st d d k
 unfolding term pat_at places_in notes_in lasts_of
 keyed-none c e pl n k s' st d = record { put = put-none st d; pats = refl; lasts = refl; end = omega arith }
 
 -- its key, the pattern, and those behind it
-pub keyed-one : (b : List ℕ) (p y : ℕ) (vw : View) (e : Env) (pl w al : ℕ) (t : Term) (x : Pattern) (xs : PatEntries) (k j r : ℕ) (s s₁ s₂ s' st st₁ st₂ st' d d₁ d₂ d' : List ℕ)
+pub keyed-one : (b : List ℕ) (p y : ℕ) (vw : View) (e : Env) (pl w al : ℕ) (t : Term) (x : Pattern) (xs : PatEntries) (k j r : ℕ) (s s₁ s₂ s' : List ℕ) (st st₁ st₂ st' : State) (d d₁ d₂ d' : List ℕ)
     → al ≡ 0 → Laid b (p + 3) s s₁ k st st₁ d d₁ al w → Seen vw b s k → env_of vw b s k ≡ e → TermAt b t (p + 3)
     → Patterned b y s₁ s₂ k (num st) st₁ st₂ d₁ d₂ j → PatternAt b x y
     → take (4 * j) s' ≡ take (4 * j) s₂ → KeyedIs vw.top e pl (num st₂) xs j s' st₂ st' d₂ d' r
@@ -343,13 +345,13 @@ keyed-one b p y vw e pl w al t x xs k j r s s₁ s₂ s' st st₁ st₂ st' d d�
 
 -- ---- the loop over the entries of the object pattern at q: the next one is at p; its notes start at row j
 
-pub record KeyedLeft (vw : View) (b : List ℕ) (q pl : ℕ) (xs : PatEntries) (e : Env) (k₀ : ℕ) (st₀ d₀ : List ℕ) (p j : ℕ) (s st d : List ℕ) : Type 0 where
+pub record KeyedLeft (vw : View) (b : List ℕ) (q pl : ℕ) (xs : PatEntries) (e : Env) (k₀ : ℕ) (st₀ : State) (d₀ : List ℕ) (p j : ℕ) (s : List ℕ) (st : State) (d : List ℕ) : Type 0 where
   pub rest : PatEntries
   pub at : Row b (f_pat_entries rest rnil) p (end_of b q)
-  pub goes : (s' st' d' : List ℕ) (r : ℕ) → take (4 * j) s' ≡ take (4 * j) s → KeyedIs vw.top e pl (num st) rest j s' st st' d d' r
+  pub goes : (s' : List ℕ) (st' : State) (d' : List ℕ) (r : ℕ) → take (4 * j) s' ≡ take (4 * j) s → KeyedIs vw.top e pl (num st) rest j s' st st' d d' r
       → KeyedIs vw.top e pl (num st₀) xs k₀ s' st₀ st' d₀ d' r
 
-pub record KeyedGo (b : List ℕ) (q : ℕ) (s₀ : List ℕ) (k₀ : ℕ) (st₀ d₀ : List ℕ) (p j : ℕ) (s st d : List ℕ) : Type 0 where
+pub record KeyedGo (b : List ℕ) (q : ℕ) (s₀ : List ℕ) (k₀ : ℕ) (st₀ : State) (d₀ : List ℕ) (p j : ℕ) (s : List ℕ) (st : State) (d : List ℕ) : Type 0 where
   pub goes : (vw : View) → Seen vw b s₀ k₀ → (xs : PatEntries) (pl : ℕ) → Row b (f_pat_entries xs rnil) (q + 3) (end_of b q)
       → KeyedLeft vw b q pl xs (env_of vw b s₀ k₀) k₀ st₀ d₀ p j s st d
   pub wide : (xs : PatEntries) → Row b (f_pat_entries xs rnil) (q + 3) (end_of b q)
@@ -364,7 +366,11 @@ pub record KeyedGo (b : List ℕ) (q : ℕ) (s₀ : List ℕ) (k₀ : ℕ) (st�
   pub paid : Paid (q + 3) p k₀ s₀ s st₀ st
   pub size : length d ≡ length d₀
 
-pub keyed-start : (b : List ℕ) (q : ℕ) (s : List ℕ) (k : ℕ) (st d : List ℕ) → Ready b s k (q + 3) (end_of b q) st → ((xs : PatEntries) × Row b (f_pat_entries xs rnil) (q + 3) (end_of b q)) → end_of b q ≤ length b
+-- p is where the next one stands
+pub keyed-on : (b : List ℕ) (q : ℕ) (s₀ : List ℕ) (k₀ : ℕ) (st₀ : State) (d₀ : List ℕ) (n p j : ℕ) (s : List ℕ) (st : State) (d : List ℕ) → n ≡ p → KeyedGo b q s₀ k₀ st₀ d₀ n j s st d → KeyedGo b q s₀ k₀ st₀ d₀ p j s st d
+keyed-on b q s₀ k₀ st₀ d₀ n p j s st d e g = subst (λ (r : ℕ). KeyedGo b q s₀ k₀ st₀ d₀ r j s st d) e g
+
+pub keyed-start : (b : List ℕ) (q : ℕ) (s : List ℕ) (k : ℕ) (st : State) (d : List ℕ) → Ready b s k (q + 3) (end_of b q) st → ((xs : PatEntries) × Row b (f_pat_entries xs rnil) (q + 3) (end_of b q)) → end_of b q ≤ length b
     → KeyedGo b q s k st d (q + 3) k s st d
 keyed-start b q s k st d y x f =
     record {
@@ -377,7 +383,7 @@ keyed-start b q s k st d y x f =
       order = omega arith;
       notes = λ i l m. absurd (omega (arith, l, m));
       rows = omega arith;
-      paid = record { kept = refl; same = refl; three = refl; nums = omega arith; offs = omega arith; errs = omega arith };
+      paid = record { kept = refl; same = refl; nums = omega arith; offs = omega arith; errs = omega arith };
       size = refl;
     }
 
@@ -388,21 +394,21 @@ pub record KeyedAt (b : List ℕ) (p z : ℕ) : Type 0 where
   pub last : end_of b (end_of b (p + 3)) ≡ end_of b p
   pub past : end_of b p ≤ z
 
-module _ (b : List ℕ) (q : ℕ) (s₀ : List ℕ) (k₀ : ℕ) (st₀ d₀ : List ℕ) (p j : ℕ) (s st d : List ℕ) (o : KeyedGo b q s₀ k₀ st₀ d₀ p j s st d) where
+module _ (b : List ℕ) (q : ℕ) (s₀ : List ℕ) (k₀ : ℕ) (st₀ : State) (d₀ : List ℕ) (p j : ℕ) (s : List ℕ) (st : State) (d : List ℕ) (o : KeyedGo b q s₀ k₀ st₀ d₀ p j s st d) where
   pub keyed-at : p < end_of b q → KeyedAt b p (end_of b q)
   keyed-at l = on-keyed-cons b p (end_of b q) (λ _. KeyedAt b p (end_of b q)) l (λ t x xs f a c e n w. record { key = (t, a); pat = (x, c); last = e; past = n }) o.some.0 o.some.1
 
   pub keyed-key : p < end_of b q → Ready b s j (p + 3) (end_of b (p + 3)) st × Stands b (p + 3) × (num st < 65536)
   keyed-key l = let e = keyed-at l in (ready-part b s j p (p + 3) (end_of b q) (end_of b (p + 3)) st o.ready (omega arith) (omega arith) (omega (arith, e.last, e.past)), e.key, omega (arith, o.ready.nums, l))
 
-  pub keyed-pattern : p < end_of b q → (s₁ st₁ d₁ : List ℕ) (al w : ℕ) → Laid b (p + 3) s s₁ j st st₁ d d₁ al w
+  pub keyed-pattern : p < end_of b q → (s₁ : List ℕ) (st₁ : State) (d₁ : List ℕ) (al w : ℕ) → Laid b (p + 3) s s₁ j st st₁ d d₁ al w
       → Ready b s₁ j (end_of b (p + 3) + 1) (end_of b (end_of b (p + 3))) st₁ × Spare b s₁ j (end_of b (p + 3)) × ((x : Pattern) × PatternAt b x (end_of b (p + 3)))
   keyed-pattern l s₁ st₁ d₁ al w m =
       let e = keyed-at l in
       let y = ready-after b s s₁ j p (p + 3 + 1) (end_of b (p + 3)) (end_of b q) st st₁ o.ready (omega arith) (omega arith) (omega (arith, e.last, e.past)) m.paid in
       (ready-part b s₁ j (end_of b (p + 3)) (end_of b (p + 3) + 1) (end_of b q) (end_of b (end_of b (p + 3))) st₁ y (omega arith) (omega arith) (omega (arith, e.last, e.past)), y.spare, e.pat)
 
-  pub keyed-more : (s₁ s₂ st₁ st₂ d₁ d₂ : List ℕ) (al w r : ℕ) → p < end_of b q → al ≡ 0 → Laid b (p + 3) s s₁ j st st₁ d d₁ al w
+  pub keyed-more : (s₁ s₂ : List ℕ) (st₁ st₂ : State) (d₁ d₂ : List ℕ) (al w r : ℕ) → p < end_of b q → al ≡ 0 → Laid b (p + 3) s s₁ j st st₁ d d₁ al w
       → Patterned b (end_of b (p + 3)) s₁ s₂ j (num st) st₁ st₂ d₁ d₂ r → KeyedGo b q s₀ k₀ st₀ d₀ (end_of b p) r s₂ st₂ d₂
   unfolding pat_width
   keyed-more s₁ s₂ st₁ st₂ d₁ d₂ al w r l z₀ f m =
@@ -413,7 +419,6 @@ module _ (b : List ℕ) (q : ℕ) (s₀ : List ℕ) (k₀ : ℕ) (st₀ d₀ : L
         fits = o.fits;
         ready = record {
           small = y.small;
-          three = m.paid.three ∙ f.paid.three ∙ y.three;
           view = y.view;
           seen = (m.seen y.view v₀).0;
           order = e.past;
@@ -430,7 +435,6 @@ module _ (b : List ℕ) (q : ℕ) (s₀ : List ℕ) (k₀ : ℕ) (st₀ d₀ : L
         paid = record {
           kept = kept_less k₀ j s₁ s₂ o.order m.paid.kept ∙ kept_less k₀ j s s₁ o.order f.paid.kept ∙ o.paid.kept;
           same = m.paid.same ∙ f.paid.same ∙ o.paid.same;
-          three = m.paid.three ∙ f.paid.three ∙ o.paid.three;
           nums = omega (arith, f.paid.nums, m.paid.nums, o.paid.nums, e.last);
           offs = omega (arith, f.paid.offs, m.paid.offs, o.paid.offs, e.last);
           errs = omega (arith, f.paid.errs, m.paid.errs, o.paid.errs, e.last);
@@ -456,7 +460,7 @@ module _ (b : List ℕ) (q : ℕ) (s₀ : List ℕ) (k₀ : ℕ) (st₀ d₀ : L
       left : (vw : View) → Seen vw b s₀ k₀ → (xs : PatEntries) (pl : ℕ) → KeyedLeft vw b q pl xs (env_of vw b s₀ k₀) k₀ st₀ d₀ p j s st d → KeyedLeft vw b q pl xs (env_of vw b s₀ k₀) k₀ st₀ d₀ (end_of b p) r s₂ st₂ d₂
       left vw g xs pl a =
           on-keyed-cons b p (end_of b q)
-          (λ ys. ((s' st' d' : List ℕ) (u : ℕ) → take (4 * j) s' ≡ take (4 * j) s → KeyedIs vw.top (env_of vw b s₀ k₀) pl (num st) ys j s' st st' d d' u → KeyedIs vw.top (env_of vw b s₀ k₀) pl (num st₀) xs k₀ s' st₀ st' d₀ d' u)
+          (λ ys. ((s' : List ℕ) (st' : State) (d' : List ℕ) (u : ℕ) → take (4 * j) s' ≡ take (4 * j) s → KeyedIs vw.top (env_of vw b s₀ k₀) pl (num st) ys j s' st st' d d' u → KeyedIs vw.top (env_of vw b s₀ k₀) pl (num st₀) xs k₀ s' st₀ st' d₀ d' u)
           → KeyedLeft vw b q pl xs (env_of vw b s₀ k₀) k₀ st₀ d₀ (end_of b p) r s₂ st₂ d₂)
           l
           (λ t z zs h ta c i n v k.
@@ -499,7 +503,7 @@ module _ (b : List ℕ) (q : ℕ) (s₀ : List ℕ) (k₀ : ℕ) (st₀ d₀ : L
       done vw xs pl a =
           let i₀ : KeyedIs vw.top (env_of vw b s₀ k₀) pl (num st₀) xs k₀ s st₀ st d₀ d j =
           on-keyed-nil b p (end_of b q)
-          (λ ys. ((s' st' d' : List ℕ) (u : ℕ) → take (4 * j) s' ≡ take (4 * j) s → KeyedIs vw.top (env_of vw b s₀ k₀) pl (num st) ys j s' st st' d d' u → KeyedIs vw.top (env_of vw b s₀ k₀) pl (num st₀) xs k₀ s' st₀ st' d₀ d' u)
+          (λ ys. ((s' : List ℕ) (st' : State) (d' : List ℕ) (u : ℕ) → take (4 * j) s' ≡ take (4 * j) s → KeyedIs vw.top (env_of vw b s₀ k₀) pl (num st) ys j s' st st' d d' u → KeyedIs vw.top (env_of vw b s₀ k₀) pl (num st₀) xs k₀ s' st₀ st' d₀ d' u)
           → KeyedIs vw.top (env_of vw b s₀ k₀) pl (num st₀) xs k₀ s st₀ st d₀ d j)
           l (λ k. k s st d j refl (keyed-none vw.top (env_of vw b s₀ k₀) pl (num st) j s st d)) a.rest a.at a.goes in
           (i₀.put, i₀.pats, i₀.lasts, i₀.end)

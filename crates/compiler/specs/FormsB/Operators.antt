@@ -1,5 +1,5 @@
 -- Operators: BinOp, and Pipe without a pattern. Assumes nothing.
-use Rattle.std.specs.Prelude.{ℕ, zero, suc, ◌+◌, ◌-◌, ◌≤◌, ◌<◌, ◌≡◌, refl, Bool, true, false, cond, List, [], ◌∷◌, ◌++◌, eqb, ltb, length, get_or, set}
+use Rattle.std.specs.Prelude.{ℕ, zero, suc, ◌+◌, ◌-◌, ◌≤◌, ◌<◌, ◌≡◌, refl, Bool, true, false, cond, List, [], ◌∷◌, ◌++◌, eqb, ltb, length, get_or}
 use Rattle.std.proofs.Common.{arith, sym, ap, ap₂, ◌∙◌, ne_eqb}
 use Rattle.std.proofs.Math.Path.{subst}
 use Rattle.std.proofs.Math.Option.{none}
@@ -22,7 +22,8 @@ use Rattle.reads.specs.Widths.{op_width}
 use Rattle.reads.specs.Lengths.{op-length}
 use Rattle.reads.specs.Parts.{on-no-pattern}
 use Rattle.reads.specs.Shapes.{BinAt, PipeAt, on-binop, on-pipe}
-use Rattle.puts.specs.State.{num, off, ers, start_of, spot_of, next_of}
+use Rattle.puts.specs.declared.state.State.{State}
+use Rattle.puts.specs.State.{num, off, ers, start_of, spot_of, next_of, with_off}
 use Rattle.puts.specs.Rooms.{put_then, put-none, own-node}
 use Rattle.cells.specs.Cells.{View, Seen, env_of}
 use Rattle.compiler.specs.Post.{Ready, Stands, Did, Laid}
@@ -108,8 +109,8 @@ module _ (b : List ℕ) (p q x : ℕ) (P : Term → Type 0) where
       subst (λ (m : ℕ). P (t_bin_op p u m (get_or b (m + 3) 0 ∷ []) v)) i
       (subst (λ (y : ℕ). P (t_bin_op p u q (y ∷ []) v)) j (f u v (subst (λ (m : ℕ). BinAt b p m u v) (sym i) at))))
 
-module _ (b : List ℕ) (p q x : ℕ) (s : List ℕ) (k o w : ℕ) (st st₁ : List ℕ) (e : get_or b p 0 ≡ 0xAD) (i : q ≡ end_of b (p + 3)) (n : get_or b q 0 ≡ 0xB9) (j : x ≡ get_or b (q + 3) 0)
-    (y : Ready b s k (p + 1) (end_of b p) st) (g : Stands b p) (h : w ≡ op_width x) (f : st₁ ≡ set st 1 (start_of o (off st) w)) where
+module _ (b : List ℕ) (p q x : ℕ) (s : List ℕ) (k o w : ℕ) (st st₁ : State) (e : get_or b p 0 ≡ 0xAD) (i : q ≡ end_of b (p + 3)) (n : get_or b q 0 ≡ 0xB9) (j : x ≡ get_or b (q + 3) 0)
+    (y : Ready b s k (p + 1) (end_of b p) st) (g : Stands b p) (h : w ≡ op_width x) (f : st₁ ≡ with_off st (start_of o (off st) w)) where
   -- the operator's byte
   pub binop-byte : (q + 4 ≤ length b) × (is_operator x ≡ true)
   binop-byte = on-bin b p q x (λ _. (q + 4 ≤ length b) × (is_operator x ≡ true)) e i n j (λ u v a. (omega (arith, a.one, a.mid), subst (λ (m : ℕ). is_operator m ≡ true) (sym j) a.is)) g.0 g.1
@@ -119,7 +120,7 @@ module _ (b : List ℕ) (p q x : ℕ) (s : List ℕ) (k o w : ℕ) (st st₁ : L
       on-bin b p q x (λ _. Ready b s k (p + 3) (end_of b (p + 3)) st₁ × Stands b (p + 3)) e i n j
       (λ u v a. (ready-start b s k (p + 1) (p + 3) (end_of b p) (end_of b (p + 3)) o w st st₁ y (omega arith) (omega arith) (omega (arith, i, a.last)) (omega (arith, h, op-small x)) f, (u, a.left))) g.0 g.1
 
-  pub binop-right : (s₁ st₂ d d₁ : List ℕ) (al r : ℕ) → Laid b (p + 3) s s₁ k st₁ st₂ d d₁ al r → Ready b s₁ k (q + 4) (end_of b (q + 4)) st₂ × Stands b (q + 4)
+  pub binop-right : (s₁ : List ℕ) (st₂ : State) (d d₁ : List ℕ) (al r : ℕ) → Laid b (p + 3) s s₁ k st₁ st₂ d d₁ al r → Ready b s₁ k (q + 4) (end_of b (q + 4)) st₂ × Stands b (q + 4)
   binop-right s₁ st₂ d d₁ al r m =
       on-bin b p q x (λ _. Ready b s₁ k (q + 4) (end_of b (q + 4)) st₂ × Stands b (q + 4)) e i n j
       (λ u v a.
@@ -127,10 +128,10 @@ module _ (b : List ℕ) (p q x : ℕ) (s : List ℕ) (k o w : ℕ) (st st₁ : L
       let l = ready-after b s s₁ k (p + 3) (p + 3 + 1) (end_of b (p + 3)) (end_of b p) st₁ st₂ c (omega arith) (omega arith) (omega (arith, i, a.last)) m.paid in
       (ready-part b s₁ k (end_of b (p + 3)) (q + 4) (end_of b p) (end_of b (q + 4)) st₂ l (omega (arith, i)) (omega arith) (omega (arith, a.last)), (v, a.right))) g.0 g.1
 
-  pub binop-did : (s₁ s₂ : List ℕ) (a c z rl rr : ℕ) (st₂ st₃ st₄ d d₁ d₂ d₃ : List ℕ) (al : ℕ) → a ≡ num st₁
+  pub binop-did : (s₁ s₂ : List ℕ) (a c z rl rr : ℕ) (st₂ st₃ st₄ : State) (d d₁ d₂ d₃ : List ℕ) (al : ℕ) → a ≡ num st₁
       → Laid b (p + 3) s s₁ k st₁ st₂ d d₁ (left_allows (operator_of x) al) rl → c ≡ num st₂
       → Laid b (q + 4) s₁ s₂ k st₂ st₃ d₁ d₂ (right_allows (operator_of x) al) rr
-      → z ≡ spot_of o (off st₃) → st₄ ≡ set st₃ 1 (next_of o (off st₃) w) → d₃ ≡ overlay d₂ z (node_bytes 2 (binary (operator (x ∷ [])) a c))
+      → z ≡ spot_of o (off st₃) → st₄ ≡ with_off st₃ (next_of o (off st₃) w) → d₃ ≡ overlay d₂ z (node_bytes 2 (binary (operator (x ∷ [])) a c))
       → Did b p s s₂ k o st st₄ d d₃ al (bit_or rl rr)
   unfolding term
   binop-did s₁ s₂ a c z rl rr st₂ st₃ st₄ d d₁ d₂ d₃ al a₁ ml c₂ mr zx f₄ pt =
@@ -143,11 +144,11 @@ module _ (b : List ℕ) (p q x : ℕ) (s : List ℕ) (k o w : ℕ) (st st₁ : L
       last : end_of b (q + 4) ≡ end_of b p
       last = on-bin b p q x (λ _. end_of b (q + 4) ≡ end_of b p) e i n j (λ u v m. m.last) g.0 g.1
 
-      t₁ : Stored st st₁ (num st) (start_of o (off st) w) (ers st)
-      t₁ = set-off st st₁ (start_of o (off st) w) y.three f
+      t₁ : Stored st₁ (num st) (start_of o (off st) w) (ers st)
+      t₁ = set-off st st₁ (start_of o (off st) w) f
 
-      t₄ : Stored st₃ st₄ (num st₃) (next_of o (off st₃) w) (ers st₃)
-      t₄ = set-off st₃ st₄ (next_of o (off st₃) w) (omega (arith, mr.paid.three, ml.paid.three, t₁.same, y.three)) f₄
+      t₄ : Stored st₄ (num st₃) (next_of o (off st₃) w) (ers st₃)
+      t₄ = set-off st₃ st₄ (next_of o (off st₃) w) f₄
 
       is : (vw : View) → Seen vw b s k → (u v : Term) → BinAt b p q u v → Made b p (term vw.top (t_bin_op p u q (x ∷ []) v) (env_of vw b s k) (num st) al) o st st₄ d d₃ (bit_or rl rr)
       is vw v u u' at =
@@ -163,7 +164,7 @@ module _ (b : List ℕ) (p q x : ℕ) (s : List ℕ) (k o w : ℕ) (st st₁ : L
           let wl : w ≡ length (node_bytes 2 N) = h ∙ sym (op-length x (num st) (num st + size A) binop-byte.1) in
           record {
             own =
-                own-node (outs.node p N (slot A ++ slot B) (A.errs ++ B.errs) (union A.tail B.tail)) o w z st st₁ st₃ st₄ d d₂ d₃ y.three wl f pab zx f₄
+                own-node (outs.node p N (slot A ++ slot B) (A.errs ++ B.errs) (union A.tail B.tail)) o w z st st₁ st₃ st₄ d d₂ d₃ wl f pab zx f₄
                 (pt ∙ ap₂ (λ (m l : ℕ). overlay d₂ z (node_bytes 2 (binary (operator_of x) m l))) (a₁ ∙ t₁.num) (c₂ ∙ n₂));
             tail = ap₂ bit_or pa.1 pb.1;
             wide = omega (arith, wl, h, op-small x, pab.offs, ml.paid.offs, mr.paid.offs, at.last, i);
@@ -183,14 +184,14 @@ module _ (b : List ℕ) (p q : ℕ) (P : Term → Type 0) where
   on-bare-pipe e i n z f =
       on-piped e i n (λ u x v at. on-no-pattern b (q + 3) (end_of b q) (λ y. PipeAt b p q u y v → P (t_pipe p u q y v)) (omega (arith, z)) (λ a. f u v a) x at.pat at)
 
-module _ (b : List ℕ) (p q : ℕ) (s : List ℕ) (k o : ℕ) (st st₁ : List ℕ) (e : get_or b p 0 ≡ 0xAD) (i : q ≡ end_of b (p + 3)) (n : get_or b q 0 ≡ 0xB7) (j : end_of b q ≡ q + 3)
-    (y : Ready b s k (p + 1) (end_of b p) st) (g : Stands b p) (f : st₁ ≡ set st 1 (start_of o (off st) 8)) where
+module _ (b : List ℕ) (p q : ℕ) (s : List ℕ) (k o : ℕ) (st st₁ : State) (e : get_or b p 0 ≡ 0xAD) (i : q ≡ end_of b (p + 3)) (n : get_or b q 0 ≡ 0xB7) (j : end_of b q ≡ q + 3)
+    (y : Ready b s k (p + 1) (end_of b p) st) (g : Stands b p) (f : st₁ ≡ with_off st (start_of o (off st) 8)) where
   pub pipe-left : Ready b s k (p + 3) (end_of b (p + 3)) st₁ × Stands b (p + 3)
   pipe-left =
       on-bare-pipe b p q (λ _. Ready b s k (p + 3) (end_of b (p + 3)) st₁ × Stands b (p + 3)) e i n j
       (λ u v a. (ready-start b s k (p + 1) (p + 3) (end_of b p) (end_of b (p + 3)) o 8 st st₁ y (omega arith) (omega arith) (omega (arith, i, j, a.last)) (omega arith) f, (u, a.left))) g.0 g.1
 
-  pub pipe-right : (s₁ st₂ d d₁ : List ℕ) (al r : ℕ) → Laid b (p + 3) s s₁ k st₁ st₂ d d₁ al r → Ready b s₁ k (q + 3) (end_of b (q + 3)) st₂ × Stands b (q + 3)
+  pub pipe-right : (s₁ : List ℕ) (st₂ : State) (d d₁ : List ℕ) (al r : ℕ) → Laid b (p + 3) s s₁ k st₁ st₂ d d₁ al r → Ready b s₁ k (q + 3) (end_of b (q + 3)) st₂ × Stands b (q + 3)
   pipe-right s₁ st₂ d d₁ al r m =
       on-bare-pipe b p q (λ _. Ready b s₁ k (q + 3) (end_of b (q + 3)) st₂ × Stands b (q + 3)) e i n j
       (λ u v a.
@@ -199,10 +200,10 @@ module _ (b : List ℕ) (p q : ℕ) (s : List ℕ) (k o : ℕ) (st st₁ : List 
       let l = ready-after b s s₁ k (p + 3) (p + 3 + 1) (end_of b (p + 3)) (end_of b p) st₁ st₂ c (omega arith) (omega arith) (omega (arith, i, end)) m.paid in
       (ready-part b s₁ k (end_of b (p + 3)) (q + 3) (end_of b p) (end_of b (q + 3)) st₂ l (omega (arith, i)) (omega arith) (omega (arith, end)), (v, subst (λ (z : ℕ). TermAt b v z) j a.right))) g.0 g.1
 
-  pub pipe-did : (s₁ s₂ : List ℕ) (a c z rl rr : ℕ) (st₂ st₃ st₄ d d₁ d₂ d₃ : List ℕ) (al : ℕ) → a ≡ num st₁
+  pub pipe-did : (s₁ s₂ : List ℕ) (a c z rl rr : ℕ) (st₂ st₃ st₄ : State) (d d₁ d₂ d₃ : List ℕ) (al : ℕ) → a ≡ num st₁
       → Laid b (p + 3) s s₁ k st₁ st₂ d d₁ 0 rl → c ≡ num st₂
       → Laid b (q + 3) s₁ s₂ k st₂ st₃ d₁ d₂ al rr
-      → z ≡ spot_of o (off st₃) → st₄ ≡ set st₃ 1 (next_of o (off st₃) 8) → d₃ ≡ overlay d₂ z (field 0x5E (number 2 a ++ (0 ∷ number 2 c)))
+      → z ≡ spot_of o (off st₃) → st₄ ≡ with_off st₃ (next_of o (off st₃) 8) → d₃ ≡ overlay d₂ z (field 0x5E (number 2 a ++ (0 ∷ number 2 c)))
       → Did b p s s₂ k o st st₄ d d₃ al rr
   unfolding term opt_pat_bytes
   pipe-did s₁ s₂ a c z rl rr st₂ st₃ st₄ d d₁ d₂ d₃ al a₁ ml c₂ mr zx f₄ pt =
@@ -215,11 +216,11 @@ module _ (b : List ℕ) (p q : ℕ) (s : List ℕ) (k o : ℕ) (st st₁ : List 
       last : end_of b (q + 3) ≡ end_of b p
       last = on-bare-pipe b p q (λ _. end_of b (q + 3) ≡ end_of b p) e i n j (λ u v m. subst (λ (h : ℕ). end_of b h ≡ end_of b p) j m.last) g.0 g.1
 
-      t₁ : Stored st st₁ (num st) (start_of o (off st) 8) (ers st)
-      t₁ = set-off st st₁ (start_of o (off st) 8) y.three f
+      t₁ : Stored st₁ (num st) (start_of o (off st) 8) (ers st)
+      t₁ = set-off st st₁ (start_of o (off st) 8) f
 
-      t₄ : Stored st₃ st₄ (num st₃) (next_of o (off st₃) 8) (ers st₃)
-      t₄ = set-off st₃ st₄ (next_of o (off st₃) 8) (omega (arith, mr.paid.three, ml.paid.three, t₁.same, y.three)) f₄
+      t₄ : Stored st₄ (num st₃) (next_of o (off st₃) 8) (ers st₃)
+      t₄ = set-off st₃ st₄ (next_of o (off st₃) 8) f₄
 
       is : (vw : View) → Seen vw b s k → (u v : Term) → PipeAt b p q u no_pattern v → Made b p (term vw.top (t_pipe p u q no_pattern v) (env_of vw b s k) (num st) al) o st st₄ d d₃ rr
       is vw v u u' at =
@@ -236,7 +237,7 @@ module _ (b : List ℕ) (p q : ℕ) (s : List ℕ) (k o : ℕ) (st st₁ : List 
           let wl : 8 ≡ length (node_bytes 2 N) = mid-long 0x5E (num st) 0 (num st + size A) in
           record {
             own =
-                own-node (outs.node p N (slot A ++ (slot B ++ [])) (A.errs ++ (B.errs ++ [])) B.tail) o 8 z st st₁ st₃ st₄ d d₂ d₃ y.three wl f pab zx f₄
+                own-node (outs.node p N (slot A ++ (slot B ++ [])) (A.errs ++ (B.errs ++ [])) B.tail) o 8 z st st₁ st₃ st₄ d d₂ d₃ wl f pab zx f₄
                 (pt ∙ ap₂ (λ (m l : ℕ). overlay d₂ z (field 0x5E (number 2 m ++ (0 ∷ number 2 l)))) (a₁ ∙ t₁.num) (c₂ ∙ n₂));
             tail = pb.1;
             wide = omega (arith, wl, pab.offs, ml.paid.offs, mr.paid.offs, last, i);

@@ -13,6 +13,7 @@ use Rattle.rules.specs.Rules.{term, pattern, elements, keyed}
 use Rattle.reads.specs.Bytes.{PatternAt}
 use Rattle.reads.specs.Widths.{pat_width}
 use Rattle.reads.specs.Parts.{on-pat-var, on-pat-array, on-pat-object, pattern-fits}
+use Rattle.puts.specs.declared.state.State.{State}
 use Rattle.puts.specs.State.{num, off, Put}
 use Rattle.puts.specs.Rooms.{put-none}
 use Rattle.cells.specs.Cells.{View, Seen, env_of, number_at, last_at}
@@ -84,12 +85,12 @@ pub pattern-room : (b s : List ℕ) (k q : ℕ) → (x : Pattern) → PatternAt 
 pattern-room b s k q x h e = omega (arith, pattern-fits b x q h, e)
 
 -- what Patterned says of one view and one pattern
-abbrev PatIs : View → List ℕ → List ℕ → List ℕ → ℕ → ℕ → List ℕ → List ℕ → List ℕ → List ℕ → ℕ → Pattern → ℕ → Type 0
+abbrev PatIs : View → List ℕ → List ℕ → List ℕ → ℕ → ℕ → State → State → List ℕ → List ℕ → ℕ → Pattern → ℕ → Type 0
 PatIs vw b s s' k n st st' d d' r x p =
     let m = pattern vw.top x p (env_of vw b s k) (num st) in
     Put m.more m.errs st st' d d' × (pat_at s' x k ≡ m.made) × (lasts_of s' k (notes_in x) ≡ places_in x) × (number_at s' k ≡ n) × (r ≡ k + notes_in x)
 
-pub pattern-var : (b : List ℕ) (q : ℕ) (s s₁ : List ℕ) (k n : ℕ) (st d : List ℕ) → get_or b q 0 ≡ 0x98 → end_of b q ≤ length b → NoteIs b s s₁ k 6 n q → Patterned b q s s₁ k n st st d d (k + 1)
+pub pattern-var : (b : List ℕ) (q : ℕ) (s s₁ : List ℕ) (k n : ℕ) (st : State) (d : List ℕ) → get_or b q 0 ≡ 0x98 → end_of b q ≤ length b → NoteIs b s s₁ k 6 n q → Patterned b q s s₁ k n st st d d (k + 1)
 unfolding term pat_at places_in notes_in lasts_of pat_width
 pattern-var b q s s₁ k n st d e fit h =
     record {
@@ -100,11 +101,11 @@ pattern-var b q s s₁ k n st d e fit h =
           subst (λ (y : ℕ). NoteFits b s₁ y) i (h.kinds, λ z. subst (λ (y : ℕ). end_of b y ≤ length b) (sym h.last) fit);
       rows = omega arith;
       wide = on-pat-var b q (λ x. off st + pat_width x + 64 * (q + 1) ≤ off st + 64 * end_of b q) e (λ x f t o. omega arith);
-      paid = record { kept = h.kept; same = h.same; three = refl; nums = omega arith; offs = omega arith; errs = omega arith };
+      paid = record { kept = h.kept; same = h.same; nums = omega arith; offs = omega arith; errs = omega arith };
     }
 
 -- its members' notes stand behind its own
-module _ (b : List ℕ) (q : ℕ) (s s₁ s₂ : List ℕ) (k n r : ℕ) (st st₂ d d₂ : List ℕ) (h : NoteIs b s s₁ k 6 n 0) where
+module _ (b : List ℕ) (q : ℕ) (s s₁ s₂ : List ℕ) (k n r : ℕ) (st st₂ : State) (d d₂ : List ℕ) (h : NoteIs b s s₁ k 6 n 0) where
   behind-kept : take (4 * (k + 1)) s₂ ≡ take (4 * (k + 1)) s₁ → (last_at s₂ k ≡ 0) × (number_at s₂ k ≡ n) × (take (4 * k) s₂ ≡ take (4 * k) s)
   behind-kept e = (last-kept s₁ s₂ (k + 1) k e (omega arith) ∙ h.last, number-kept s₁ s₂ (k + 1) k e (omega arith) ∙ h.number, kept_less k (k + 1) s₁ s₂ (omega arith) e ∙ h.kept)
 
@@ -129,7 +130,7 @@ module _ (b : List ℕ) (q : ℕ) (s s₁ s₂ : List ℕ) (k n r : ℕ) (st st�
         notes = behind-notes m.paid.kept m.notes;
         rows = omega (arith, m.rows);
         wide = on-pat-array b q (λ x. off st₂ + pat_width x + 64 * (q + 1) ≤ off st + 64 * end_of b q) e (λ xs f w. omega (arith, m.wide xs w));
-        paid = record { kept = c.2; same = m.paid.same ∙ h.same; three = m.paid.three; nums = omega (arith, m.paid.nums); offs = omega (arith, m.paid.offs); errs = omega (arith, m.paid.errs) };
+        paid = record { kept = c.2; same = m.paid.same ∙ h.same; nums = omega (arith, m.paid.nums); offs = omega (arith, m.paid.offs); errs = omega (arith, m.paid.errs) };
       }
     where
       c : (last_at s₂ k ≡ 0) × (number_at s₂ k ≡ n) × (take (4 * k) s₂ ≡ take (4 * k) s)
@@ -153,7 +154,7 @@ module _ (b : List ℕ) (q : ℕ) (s s₁ s₂ : List ℕ) (k n r : ℕ) (st st�
         notes = behind-notes m.paid.kept m.notes;
         rows = omega (arith, m.rows);
         wide = on-pat-object b q (λ x. off st₂ + pat_width x + 64 * (q + 1) ≤ off st + 64 * end_of b q) e₁ e₂ (λ xs f w. omega (arith, m.wide xs w));
-        paid = record { kept = c.2; same = m.paid.same ∙ h.same; three = m.paid.three; nums = omega (arith, m.paid.nums); offs = omega (arith, m.paid.offs); errs = omega (arith, m.paid.errs) };
+        paid = record { kept = c.2; same = m.paid.same ∙ h.same; nums = omega (arith, m.paid.nums); offs = omega (arith, m.paid.offs); errs = omega (arith, m.paid.errs) };
       }
     where
       c : (last_at s₂ k ≡ 0) × (number_at s₂ k ≡ n) × (take (4 * k) s₂ ≡ take (4 * k) s)
@@ -169,11 +170,10 @@ module _ (b : List ℕ) (q : ℕ) (s s₁ s₂ : List ℕ) (k n r : ℕ) (st st�
           (o.0, ap pat_idx (ap (λ (j : ℕ). keyed_at s₂ xs j) i ∙ o.1), ap₂ (λ (x : ℕ) (l : List ℕ). x ∷ l) c.0 (ap (λ (j : ℕ). lasts_of s₂ j (notes_keyed xs)) i ∙ o.2), c.1, omega (arith, o.3))
 
 -- what its members may use
-pub pattern-within : (b s s₁ : List ℕ) (k n q : ℕ) (st : List ℕ) → Ready b s k (q + 1) (end_of b q) st → Spare b s k q → (x : Pattern) → PatternAt b x q → NoteIs b s s₁ k 6 n 0 → Ready b s₁ (k + 1) (q + 3) (end_of b q) st
+pub pattern-within : (b s s₁ : List ℕ) (k n q : ℕ) (st : State) → Ready b s k (q + 1) (end_of b q) st → Spare b s k q → (x : Pattern) → PatternAt b x q → NoteIs b s s₁ k 6 n 0 → Ready b s₁ (k + 1) (q + 3) (end_of b q) st
 pattern-within b s s₁ k n q st y e x a h =
     record {
       small = y.small;
-      three = y.three;
       view = y.view;
       seen = (h.seen y.view y.seen).0;
       order = omega arith;

@@ -1,5 +1,5 @@
 -- A Pipe with a pattern: "Order in Pipe: left, right under the pattern variables, then the pattern." Assumes nothing.
-use Rattle.std.specs.Prelude.{ℕ, suc, ◌+◌, ◌*◌, ◌^◌, ◌≤◌, ◌<◌, ◌≡◌, refl, List, ◌++◌, length, get_or, set, take}
+use Rattle.std.specs.Prelude.{ℕ, suc, ◌+◌, ◌*◌, ◌^◌, ◌≤◌, ◌<◌, ◌≡◌, refl, List, ◌++◌, length, get_or, take}
 use Rattle.std.proofs.Common.{arith, ap, ap₂, subst, ◌∙◌}
 use Rattle.std.proofs.Math.Option.{some}
 use Rattle.fields.specs.Room.{overlay}
@@ -17,7 +17,8 @@ use Rattle.reads.specs.Widths.{pat_width}
 use Rattle.reads.specs.Lengths.{own-pipe}
 use Rattle.reads.specs.Parts.{on-opt-pattern}
 use Rattle.reads.specs.Shapes.{PipeAt, term_fits}
-use Rattle.puts.specs.State.{num, off, ers, late, start_of, spot_of, next_of, Put}
+use Rattle.puts.specs.declared.state.State.{State}
+use Rattle.puts.specs.State.{num, off, ers, late, start_of, spot_of, next_of, Put, with_off}
 use Rattle.puts.specs.Rooms.{put_then, own-node, start-high, spot-within, placed-within}
 use Rattle.cells.specs.Cells.{View, Seen, env_of, closed, Opened, Pushing}
 use Rattle.cells.specs.Leaving.{length-closed}
@@ -40,7 +41,7 @@ pub record Bound (b : List ℕ) (q : ℕ) (s s' : List ℕ) (k r : ℕ) : Type 0
   pub back : Opened s s' k r
   pub few : 3 * r + q ≤ 3 * k + end_of b q
 
-module _ (b : List ℕ) (q : ℕ) (s : List ℕ) (k : ℕ) (st : List ℕ) (z₀ : ℕ) (y : Ready b s k (q + 3) z₀ st) (far : end_of b (end_of b q) ≤ z₀) (x : (x : Pattern) × PatternAt b x (q + 3)) (z : end_of b (q + 3) ≡ end_of b q) (u : Stands b (end_of b q)) where
+module _ (b : List ℕ) (q : ℕ) (s : List ℕ) (k : ℕ) (st : State) (z₀ : ℕ) (y : Ready b s k (q + 3) z₀ st) (far : end_of b (end_of b q) ≤ z₀) (x : (x : Pattern) × PatternAt b x (q + 3)) (z : end_of b (q + 3) ≡ end_of b q) (u : Stands b (end_of b q)) where
   pub under-push : Pushing b s k (q + 3)
   under-push = record { small = y.small; view = y.view; seen = y.seen; spare = y.spare }
 
@@ -48,7 +49,6 @@ module _ (b : List ℕ) (q : ℕ) (s : List ℕ) (k : ℕ) (st : List ℕ) (z₀
   under-ready s₁ i h = (
     record {
       small = y.small;
-      three = y.three;
       view = y.view;
       seen = (h.is x.0 x.1 y.view y.seen).0;
       order = omega arith;
@@ -62,13 +62,13 @@ module _ (b : List ℕ) (q : ℕ) (s : List ℕ) (k : ℕ) (st : List ℕ) (z₀
   )
 
   -- the rows above k leave the view
-  pub under-close : (s₁ s₂ st₁ d d₁ : List ℕ) (i al r : ℕ) → Bound b (q + 3) s s₁ k i → Laid b (end_of b q) s₁ s₂ i st st₁ d d₁ al r
+  pub under-close : (s₁ s₂ : List ℕ) (st₁ : State) (d d₁ : List ℕ) (i al r : ℕ) → Bound b (q + 3) s s₁ k i → Laid b (end_of b q) s₁ s₂ i st st₁ d d₁ al r
       → Seen y.view b s₂ i × (y.view.locals ≤ k) × (k ≤ i)
   under-close s₁ s₂ st₁ d d₁ i al r h m =
       let v = h.is x.0 x.1 y.view y.seen in
       ((keeps b s₁ s₂ i (end_of b q + 1) (end_of b (end_of b q)) st st₁ m.paid y.view v.0).0, y.seen.order.1, h.back.order)
 
-  pub under-is : (s₁ s₂ s₃ st₁ d d₁ : List ℕ) (i c al r : ℕ) → Bound b (q + 3) s s₁ k i → c ≡ get_or s 1 0 → Laid b (end_of b q) s₁ s₂ i st st₁ d d₁ al r → s₃ ≡ closed s₂ k i c
+  pub under-is : (s₁ s₂ s₃ : List ℕ) (st₁ : State) (d d₁ : List ℕ) (i c al r : ℕ) → Bound b (q + 3) s s₁ k i → c ≡ get_or s 1 0 → Laid b (end_of b q) s₁ s₂ i st st₁ d d₁ al r → s₃ ≡ closed s₂ k i c
       → Under b q s s₃ k st st₁ d d₁ al r
   under-is s₁ s₂ s₃ st₁ d d₁ i c al r h e m f =
       record {
@@ -78,7 +78,6 @@ module _ (b : List ℕ) (q : ℕ) (s : List ℕ) (k : ℕ) (st : List ℕ) (z₀
         paid = record {
           kept = ap (λ (l : List ℕ). take (4 * k) l) (f ∙ ap (λ (j : ℕ). closed s₂ k i j) e) ∙ opened-close s s₁ s₂ k i h.back (m.paid.same ∙ h.back.same) m.paid.kept;
           same = ap length f ∙ length-closed s₂ k i c ∙ m.paid.same ∙ h.back.same;
-          three = m.paid.three;
           nums = m.paid.nums;
           offs = m.paid.offs;
           errs = m.paid.errs;
@@ -104,9 +103,9 @@ pub record PipedAt (b : List ℕ) (p q : ℕ) : Type 0 where
   pub last : end_of b (end_of b q) ≡ end_of b p
   pub fits : end_of b p ≤ length b
 
-module _ (b : List ℕ) (p q : ℕ) (s : List ℕ) (k o w pw : ℕ) (st st₁ : List ℕ) (e : get_or b p 0 ≡ 0xAD) (i : q ≡ end_of b (p + 3)) (n : get_or b q 0 ≡ 0xB7) (j : q + 3 < end_of b q)
+module _ (b : List ℕ) (p q : ℕ) (s : List ℕ) (k o w pw : ℕ) (st st₁ : State) (e : get_or b p 0 ≡ 0xAD) (i : q ≡ end_of b (p + 3)) (n : get_or b q 0 ≡ 0xB7) (j : q + 3 < end_of b q)
     (y : Ready b s k (p + 1) (end_of b p) st) (g : Stands b p) (wd : (x : Pattern) → PatternAt b x (q + 3) → pw ≡ pat_width x) (wl : pw + 2 * (q + 3) + 2 ≤ 2 * end_of b (q + 3)) (wi : w ≡ 7 + pw)
-    (f : st₁ ≡ set st 1 (start_of o (off st) w)) where
+    (f : st₁ ≡ with_off st (start_of o (off st) w)) where
   pub piped-at : PipedAt b p q
   piped-at =
       on-pattern-pipe b p q (λ _. PipedAt b p q) e i n j
@@ -118,20 +117,20 @@ module _ (b : List ℕ) (p q : ℕ) (s : List ℕ) (k o w pw : ℕ) (st st₁ : 
       (ready-start b s k (p + 1) (p + 3) (end_of b p) (end_of b (p + 3)) o w st st₁ y (omega arith) (omega arith) (omega (arith, i, a.last)) (omega (arith, wi, wl, a.end, a.last, a.fits, y.small)) f, a.left)
 
   -- behind the left
-  piped-on : (s₁ st₂ d d₁ : List ℕ) (al r : ℕ) → Laid b (p + 3) s s₁ k st₁ st₂ d d₁ al r → Ready b s₁ k (end_of b (p + 3)) (end_of b p) st₂
+  piped-on : (s₁ : List ℕ) (st₂ : State) (d d₁ : List ℕ) (al r : ℕ) → Laid b (p + 3) s s₁ k st₁ st₂ d d₁ al r → Ready b s₁ k (end_of b (p + 3)) (end_of b p) st₂
   piped-on s₁ st₂ d d₁ al r m =
       let a = piped-at in
       let c = ready-start b s k (p + 1) (p + 3) (end_of b p) (end_of b p) o w st st₁ y (omega arith) (omega (arith, i, a.last)) (omega arith) (omega (arith, wi, wl, a.end, a.last, a.fits, y.small)) f in
       ready-after b s s₁ k (p + 3) (p + 3 + 1) (end_of b (p + 3)) (end_of b p) st₁ st₂ c (omega arith) (omega arith) (omega (arith, i, a.last)) m.paid
 
-  pub piped-under : (s₁ st₂ d d₁ : List ℕ) (al r : ℕ) → Laid b (p + 3) s s₁ k st₁ st₂ d d₁ al r
+  pub piped-under : (s₁ : List ℕ) (st₂ : State) (d d₁ : List ℕ) (al r : ℕ) → Laid b (p + 3) s s₁ k st₁ st₂ d d₁ al r
       → Ready b s₁ k (q + 3) (end_of b (end_of b q)) st₂ × ((x : Pattern) × PatternAt b x (q + 3)) × (end_of b (q + 3) ≡ end_of b q) × Stands b (end_of b q)
   piped-under s₁ st₂ d d₁ al r m =
       let a = piped-at in
       (ready-part b s₁ k (end_of b (p + 3)) (q + 3) (end_of b p) (end_of b (end_of b q)) st₂ (piped-on s₁ st₂ d d₁ al r m) (omega (arith, i)) (omega arith) (omega (arith, a.last)), a.pat, a.end, a.right)
 
   -- The pattern is compiled behind the right: its own bytes are still to come
-  pub piped-pattern : (s₁ s₂ st₂ st₃ d d₁ d₂ : List ℕ) (al r al' r' : ℕ) → Laid b (p + 3) s s₁ k st₁ st₂ d d₁ al r → Under b q s₁ s₂ k st₂ st₃ d₁ d₂ al' r'
+  pub piped-pattern : (s₁ s₂ : List ℕ) (st₂ st₃ : State) (d d₁ d₂ : List ℕ) (al r al' r' : ℕ) → Laid b (p + 3) s s₁ k st₁ st₂ d d₁ al r → Under b q s₁ s₂ k st₂ st₃ d₁ d₂ al' r'
       → Ready b s₂ k (q + 3 + 1) (end_of b (q + 3)) st₃ × Spare b s₂ k (q + 3) × ((x : Pattern) × PatternAt b x (q + 3))
   piped-pattern s₁ s₂ st₂ st₃ d d₁ d₂ al r al' r' m h =
       let a = piped-at in
@@ -139,7 +138,6 @@ module _ (b : List ℕ) (p q : ℕ) (s : List ℕ) (k o w pw : ℕ) (st st₁ : 
       let v = keeps b s₁ s₂ k (end_of b q + 1) (end_of b (end_of b q)) st₂ st₃ h.paid c.view c.seen in (
         record {
           small = c.small;
-          three = h.paid.three ∙ c.three;
           view = c.view;
           seen = v.0;
           order = omega arith;
@@ -153,7 +151,7 @@ module _ (b : List ℕ) (p q : ℕ) (s : List ℕ) (k o w pw : ℕ) (st st₁ : 
         a.pat,
       )
 
-  module _ (s₁ s₂ s₃ : List ℕ) (a c rl rr r x al : ℕ) (st₂ st₃ st₄ d d₁ d₂ d₃ : List ℕ) (a₁ : a ≡ num st₁) (ml : Laid b (p + 3) s s₁ k st₁ st₂ d d₁ 0 rl) (c₂ : c ≡ num st₂)
+  module _ (s₁ s₂ s₃ : List ℕ) (a c rl rr r x al : ℕ) (st₂ st₃ st₄ : State) (d d₁ d₂ d₃ : List ℕ) (a₁ : a ≡ num st₁) (ml : Laid b (p + 3) s s₁ k st₁ st₂ d d₁ 0 rl) (c₂ : c ≡ num st₂)
       (mr : Under b q s₁ s₂ k st₂ st₃ d₁ d₂ al rr) (mp : Patterned b (q + 3) s₂ s₃ k 0 st₃ st₄ d₂ d₃ r) where
     seen₁ : (vw : View) → Seen vw b s k → Seen vw b s₁ k × (env_of vw b s₁ k ≡ env_of vw b s k)
     seen₁ = keeps b s s₁ k (p + 3 + 1) (end_of b (p + 3)) st₁ st₂ ml.paid
@@ -171,7 +169,7 @@ module _ (b : List ℕ) (p q : ℕ) (s : List ℕ) (k o w pw : ℕ) (st st₁ : 
         let v = seen₂ y.view y.seen in
         let m = mp.is y.view v.0 u.pat.0 0 u.pat.1 in
         let l = (mp.seen y.view v.0).0.within in
-        let t₁ = set-off st st₁ (start_of o (off st) w) y.three f in
+        let t₁ = set-off st st₁ (start_of o (off st) w) f in
         let h₁ : off st < late = omega (arith, y.offs) in
         let h₄ : off st₄ + w ≤ 137438953472 = omega (arith, y.offs, t₁.off, start-high o (off st) w, ml.paid.offs, mr.paid.offs, mp.paid.offs, wi, wl, u.end, u.last, u.fits, y.small, i) in
         let h₅ : spot_of o (off st₄) ≤ late = spot-within o (off st₄) late (placed-within o (off st) at (omega (arith, h₁))) (omega (arith, h₄)) in (
@@ -179,7 +177,7 @@ module _ (b : List ℕ) (p q : ℕ) (s : List ℕ) (k o w pw : ℕ) (st st₁ : 
           omega (arith, h₄),
         )
 
-    pub piped-did : (st₅ d₄ : List ℕ) → x ≡ spot_of o (off st₄) → st₅ ≡ set st₄ 1 (next_of o (off st₄) w)
+    pub piped-did : (st₅ : State) (d₄ : List ℕ) → x ≡ spot_of o (off st₄) → st₅ ≡ with_off st₄ (next_of o (off st₄) w)
         → ((z : Pattern) → PatternAt b z (q + 3) → w ≡ 7 + pat_width z → d₄ ≡ overlay d₃ x (node_bytes 2 (n_pipe a (some (pat_at s₃ z k)) c)))
         → Did b p s s₃ k o st st₅ d d₄ al rr
     unfolding term
@@ -193,11 +191,11 @@ module _ (b : List ℕ) (p q : ℕ) (s : List ℕ) (k o w pw : ℕ) (st st₁ : 
         at : PipedAt b p q
         at = piped-at
 
-        t₁ : Stored st st₁ (num st) (start_of o (off st) w) (ers st)
-        t₁ = set-off st st₁ (start_of o (off st) w) y.three f
+        t₁ : Stored st₁ (num st) (start_of o (off st) w) (ers st)
+        t₁ = set-off st st₁ (start_of o (off st) w) f
 
-        t₅ : Stored st₄ st₅ (num st₄) (next_of o (off st₄) w) (ers st₄)
-        t₅ = set-off st₄ st₅ (next_of o (off st₄) w) (omega (arith, mp.paid.three, mr.paid.three, ml.paid.three, t₁.same, y.three)) f₅
+        t₅ : Stored st₅ (num st₄) (next_of o (off st₄) w) (ers st₄)
+        t₅ = set-off st₄ st₅ (next_of o (off st₄) w) f₅
 
         is : (vw : View) → Seen vw b s k → (u : Term) (z : Pattern) (v : Term) → PipeAt b p q u (a_pattern z) v → PatternAt b z (q + 3) → end_of b (q + 3) ≡ end_of b q
             → common.Made b p (term vw.top (t_pipe p u q (a_pattern z) v) (env_of vw b s k) (num st) al) o st st₅ d d₄ rr
@@ -226,7 +224,7 @@ module _ (b : List ℕ) (p q : ℕ) (s : List ℕ) (k o w pw : ℕ) (st st₁ : 
             let wn : w ≡ length (node_bytes 2 N) = w₀ ∙ own-pipe p u q (a_pattern z) u' vw.top e₀ (num st) al in
             record {
               own =
-                  own-node (outs.node p N (slot A ++ (slot B ++ Y.more)) (A.errs ++ (B.errs ++ Y.errs)) B.tail) o w x st st₁ st₄ st₅ d d₃ d₄ y.three wn f pabc zx f₅
+                  own-node (outs.node p N (slot A ++ (slot B ++ Y.more)) (A.errs ++ (B.errs ++ Y.errs)) B.tail) o w x st st₁ st₄ st₅ d d₃ d₄ wn f pabc zx f₅
                   (pt z za w₀
                   ∙ ap₂ (λ (m l : ℕ). overlay d₃ x (node_bytes 2 (n_pipe m (some (pat_at s₃ z k)) l))) (a₁ ∙ t₁.num) (c₂ ∙ n₂)
                   ∙ ap (λ (m : Pat). overlay d₃ x (node_bytes 2 (n_pipe (num st) (some m) K))) pc.1);

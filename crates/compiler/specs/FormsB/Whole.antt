@@ -1,5 +1,5 @@
 -- A fold as a whole. Assumes nothing.
-use Rattle.std.specs.Prelude.{ℕ, suc, ◌+◌, ◌-◌, ◌^◌, ◌≤◌, ◌<◌, ◌≡◌, refl, Bool, true, false, cond, List, [], ◌∷◌, ◌++◌, eqb, length, get_or, set}
+use Rattle.std.specs.Prelude.{ℕ, suc, ◌+◌, ◌-◌, ◌^◌, ◌≤◌, ◌<◌, ◌≡◌, refl, Bool, true, false, cond, List, [], ◌∷◌, ◌++◌, eqb, length, get_or}
 use Rattle.std.proofs.Common.{arith, sym, ap, ap₂, subst, ◌∙◌, append_assoc}
 use Rattle.fields.specs.Number.{number}
 use Rattle.fields.specs.Field.{field}
@@ -18,9 +18,11 @@ use Rattle.reads.specs.declared.width.Fold.{Fold}
 use Rattle.reads.specs.Bytes.{TermAt, PatternAt, name_at}
 use Rattle.reads.specs.Widths.{pat_width, fold_kind, fold_width}
 use Rattle.reads.specs.Lengths.{own-fold}
+use Rattle.reads.specs.Kinds.{fold_number}
 use Rattle.reads.specs.Folds.{FoldOf}
 use Rattle.reads.specs.Shapes.{FoldAt, on-fold, on-arity-cons}
-use Rattle.puts.specs.State.{num, off, ers, late, start_of, spot_of, next_of, Put, Own}
+use Rattle.puts.specs.declared.state.State.{State}
+use Rattle.puts.specs.State.{num, off, ers, late, start_of, spot_of, next_of, Put, Own, with_off, with_ers}
 use Rattle.puts.specs.Rooms.{put_then, own-node, own-fail, start-high, spot-within, placed-within}
 use Rattle.cells.specs.Cells.{View, Seen, env_of}
 use Rattle.cells.specs.Notes.{lasts_of, pat_at, places_in, notes_in}
@@ -49,9 +51,9 @@ id-long : 3 ≡ length (node_bytes 2 n_id)
 unfolding field number
 id-long = refl
 
-pub fold-none : (b : List ℕ) (p : ℕ) (f : Fold) (s : List ℕ) (k o : ℕ) (st st₁ st₂ d d₁ d₂ : List ℕ) (home at len ex al : ℕ)
+pub fold-none : (b : List ℕ) (p : ℕ) (f : Fold) (s : List ℕ) (k o : ℕ) (st st₁ st₂ : State) (d d₁ d₂ : List ℕ) (home at len ex al : ℕ)
     → get_or b p 0 ≡ 0xAC → Ready b s k (p + 1) (end_of b p) st → Stands b p → FoldOf b p f → f.a < 2
-    → home ≡ get_or s 3 0 → at ≡ p + 6 → len ≡ f.x - p - 6 → ex ≡ ers st → st₁ ≡ set st 2 (ers st + 11)
+    → home ≡ get_or s 3 0 → at ≡ p + 6 → len ≡ f.x - p - 6 → ex ≡ ers st → st₁ ≡ with_ers st (ers st + 11)
     → d₁ ≡ overlay d ex (field 0x2B (number 2 home ++ (number 2 at ++ number 2 len) ++ number 2 f.a))
     → Own (leaf p n_id) o st₁ st₂ d₁ d₂ → Did b p s s k o st st₂ d d₂ al 0
 fold-none b p f s k o st st₁ st₂ d d₁ d₂ home at len ex al e y g fo few hm ha hl hx ht hd w =
@@ -59,14 +61,14 @@ fold-none b p f s k o st st₁ st₂ d d₁ d₂ home at len ex al e y g fo few 
     (λ vw v. on-fold b p (λ t. common.Made b p (term vw.top t (env_of vw b s k) (num st) al) o st st₂ d d₂ 0) e (is vw v))
     refl refl (omega (arith, w.nums, t.num)) (omega (arith, w.errs, t.ers))
   where
-    t : Stored st st₁ (num st) (off st) (ers st + 11)
-    t = set-ers st st₁ (ers st + 11) y.three ht
+    t : Stored st₁ (num st) (off st) (ers st + 11)
+    t = set-ers st st₁ (ers st + 11) ht
 
     is : (vw : View) → Seen vw b s k → (u : Term) (x : Pattern) (ts : Terms) → FoldAt b p u x ts → common.Made b p (term vw.top (t_fold p (name_at b (p + 3)) u x ts) (env_of vw b s k) (num st) al) o st st₂ d d₂ 0
     is vw v u x ts a =
         let m : f.a ≡ arity ts = (fo.is u x ts a).0 in
         let z : Err = fold_error vw.top (name_at b (p + 3)) f.a in
-        let pe : Put [] (z ∷ []) st st₁ d d₁ = fold-fails b p home at len f.a ex vw.top st st₁ d d₁ y.three (hm ∙ v.base.home) ha (omega (arith, hl, fo.source)) a.name hx ht hd in
+        let pe : Put [] (z ∷ []) st st₁ d d₁ = fold-fails b p home at len f.a ex vw.top st st₁ d d₁ (hm ∙ v.base.home) ha (omega (arith, hl, fo.source)) a.name hx ht hd in
         subst (λ (q : Out). common.Made b p q o st st₂ d d₂ 0)
         (ap (λ (i : ℕ). outs.fail p (fold_error vw.top (name_at b (p + 3)) i) [] []) m ∙ sym (none_out b p vw (env_of vw b s k) (num st) al u x ts (omega (arith, m, few))))
         (record { own = own-fail p z o st st₁ st₂ d d₁ d₂ pe w; tail = refl; wide = omega (arith, id-long) })
@@ -167,12 +169,12 @@ module _ (b : List ℕ) (p : ℕ) (f : Fold) (e : get_or b p 0 ≡ 0xAC) (g : St
   stands : Stands b f.x × ((x : Pattern) × PatternAt b x f.q) × Stands b f.i × Stands b f.u
   stands = on-two (λ _. Stands b f.x × ((x : Pattern) × PatternAt b x f.q) × Stands b f.i × Stands b f.u) (λ u x t₁ t₂ ts h. ((u, h.source), (x, h.pat), (t₁, h.init), (t₂, h.update))) g.0 g.1
 
-  folding : pieces.Folding b p f.x f.u f.a f.kind
+  folding : pieces.Folding b p f.x f.u f.a (fold_number f.kind)
   folding =
-      on-two (λ _. pieces.Folding b p f.x f.u f.a f.kind)
+      on-two (λ _. pieces.Folding b p f.x f.u f.a (fold_number f.kind))
       (λ u x t₁ t₂ ts h. record { source = fo.source; name = h.all.name; fits = h.all.fits; behind = omega (arith, fo.source, fo.pat, fo.init, fo.some two); kinds = fo.kind; rest = (ts, h.rest, h.many) }) g.0 g.1
 
-  module _ (s : List ℕ) (k o : ℕ) (st st₁ : List ℕ) (y : Ready b s k (p + 1) (end_of b p) st) (r₁ : st₁ ≡ set st 1 (start_of o (off st) f.w)) where
+  module _ (s : List ℕ) (k o : ℕ) (st st₁ : State) (y : Ready b s k (p + 1) (end_of b p) st) (r₁ : st₁ ≡ with_off st (start_of o (off st) f.w)) where
     pub fold_small : f.w ≤ 65536
     fold_small = omega (arith, fo.room, fold-places.fits, y.small)
 
@@ -182,7 +184,7 @@ module _ (b : List ℕ) (p : ℕ) (f : Fold) (e : get_or b p 0 ≡ 0xAC) (g : St
     pub fold-source : Ready b s k f.x (end_of b f.x) st₁ × Stands b f.x
     fold-source = let a = fold-places in (on₁ (end_of b f.x) (omega arith) (omega (arith, a.pat, a.init, a.update, a.last)), stands.0)
 
-    module _ (s₁ st₂ d d₁ : List ℕ) (w₁ : ℕ) (m₁ : Laid b f.x s s₁ k st₁ st₂ d d₁ 0 w₁) where
+    module _ (s₁ : List ℕ) (st₂ : State) (d d₁ : List ℕ) (w₁ : ℕ) (m₁ : Laid b f.x s s₁ k st₁ st₂ d d₁ 0 w₁) where
       on₂ : Ready b s₁ k f.q (end_of b p) st₂
       on₂ =
           let a = fold-places in
@@ -198,7 +200,7 @@ module _ (b : List ℕ) (p : ℕ) (f : Fold) (e : get_or b p 0 ≡ 0xAC) (g : St
           let r = on₂ in
           (ready-part b s₁ k f.q (f.q + 1) (end_of b p) (end_of b f.q) st₂ r (omega arith) (omega arith) (omega (arith, a.init, a.update, a.last)), r.spare, stands.1)
 
-      module _ (s₂ st₃ d₂ : List ℕ) (i : ℕ) (m₂ : Patterned b f.q s₁ s₂ k 0 st₂ st₃ d₁ d₂ i) where
+      module _ (s₂ : List ℕ) (st₃ : State) (d₂ : List ℕ) (i : ℕ) (m₂ : Patterned b f.q s₁ s₂ k 0 st₂ st₃ d₁ d₂ i) where
         seen₂ : (vw : View) → Seen vw b s k → Seen vw b s₂ i × (env_of vw b s₂ i ≡ env_of vw b s k)
         seen₂ vw h = let v = seen₁ vw h in let l = m₂.seen vw v.0 in (l.0, l.1 ∙ v.1)
 
@@ -208,7 +210,6 @@ module _ (b : List ℕ) (p : ℕ) (f : Fold) (e : get_or b p 0 ≡ 0xAC) (g : St
             let r = on₂ in
             record {
               small = r.small;
-              three = m₂.paid.three ∙ r.three;
               view = r.view;
               seen = (m₂.seen r.view r.seen).0;
               order = omega (arith, a.update, a.last);
@@ -225,7 +226,7 @@ module _ (b : List ℕ) (p : ℕ) (f : Fold) (e : get_or b p 0 ≡ 0xAC) (g : St
         up : k ≤ i
         up = let v = seen₁ y.view y.seen in omega (arith, (m₂.is y.view v.0 stands.1.0 0 stands.1.1).4)
 
-        module _ (s₃ st₄ d₃ : List ℕ) (w₃ : ℕ) (m₃ : Laid b f.i s₂ s₃ i st₃ st₄ d₂ d₃ 0 w₃) where
+        module _ (s₃ : List ℕ) (st₄ : State) (d₃ : List ℕ) (w₃ : ℕ) (m₃ : Laid b f.i s₂ s₃ i st₃ st₄ d₂ d₃ 0 w₃) where
           seen₃ : (vw : View) → Seen vw b s k → Seen vw b s₃ k × (env_of vw b s₃ k ≡ env_of vw b s k)
           seen₃ vw h =
               seen-kept vw b s s₃ k (kept_less k i s₂ s₃ up m₃.paid.kept ∙ m₂.paid.kept ∙ m₁.paid.kept) (m₃.paid.same ∙ m₂.paid.same ∙ m₁.paid.same) h
@@ -251,7 +252,7 @@ module _ (b : List ℕ) (p : ℕ) (f : Fold) (e : get_or b p 0 ≡ 0xAC) (g : St
                     (kind-kept s₂ s₃ i j m₃.paid.kept h ∙ c.0, λ z. subst (λ (r : ℕ). end_of b r ≤ length b) (sym v) (c.1 (λ q. z (v ∙ q))));
               }
 
-          pub fold-update : Ready b s₃ i f.u (end_of b p) st₄ × (k ≤ i) × ((vw : View) × Seen vw b s₃ k) × Noted b s₃ k i × Stands b f.u × pieces.Folding b p f.x f.u f.a f.kind
+          pub fold-update : Ready b s₃ i f.u (end_of b p) st₄ × (k ≤ i) × ((vw : View) × Seen vw b s₃ k) × Noted b s₃ k i × Stands b f.u × pieces.Folding b p f.x f.u f.a (fold_number f.kind)
           fold-update =
               let a = fold-places in (
                 subst (λ (j : ℕ). Ready b s₃ i j (end_of b p) st₄) (sym a.update)
@@ -263,7 +264,7 @@ module _ (b : List ℕ) (p : ℕ) (f : Fold) (e : get_or b p 0 ≡ 0xAC) (g : St
                 folding,
               )
 
-          module _ (s₄ st₅ d₄ : List ℕ) (al x a c n : ℕ) (u : Updated) (m₄ : Updating b p f.u f.a s₃ s₄ k i st₄ st₅ d₃ d₄ al u)
+          module _ (s₄ : List ℕ) (st₅ : State) (d₄ : List ℕ) (al x a c n : ℕ) (u : Updated) (m₄ : Updating b p f.u f.a s₃ s₄ k i st₄ st₅ d₃ d₄ al u)
               (a₁ : a ≡ num st₁) (c₃ : c ≡ num st₃) (n₄ : n ≡ num st₄) where
             kept-pat : (z : Pattern) → PatternAt b z f.q → pat_at s₃ z k ≡ pat_at s₂ z k
             kept-pat z za =
@@ -271,15 +272,15 @@ module _ (b : List ℕ) (p : ℕ) (f : Fold) (e : get_or b p 0 ≡ 0xAC) (g : St
                 let m = m₂.is y.view v.0 z 0 za in
                 pat-kept s₂ s₃ z k (λ j l h. number-kept s₂ s₃ i j m₃.paid.kept (omega (arith, h, m.4)))
 
-            t₁ : Stored st st₁ (num st) (start_of o (off st) f.w) (ers st)
-            t₁ = set-off st st₁ (start_of o (off st) f.w) y.three r₁
+            t₁ : Stored st₁ (num st) (start_of o (off st) f.w) (ers st)
+            t₁ = set-off st st₁ (start_of o (off st) f.w) r₁
 
-            pub fold-put : Placed o st → x ≡ spot_of o (off st₅) → HoldsFold b s₄ f.q k x f.kind f.w × (off st₅ + f.w < 2 ^ 64)
+            pub fold-put : Placed o st → x ≡ spot_of o (off st₅) → HoldsFold b s₄ f.q k x (fold_number f.kind) f.w × (off st₅ + f.w < 2 ^ 64)
             fold-put at e₀ =
                 let h = fold-places in
                 let v = seen₁ y.view y.seen in
-                let z : (z : Pattern) × PatternAt b z f.q × (f.w ≡ fold_width f.kind (pat_width z)) =
-                on-two (λ _. (z : Pattern) × PatternAt b z f.q × (f.w ≡ fold_width f.kind (pat_width z))) (λ t z t₁' t₂' ts g₀. (z, g₀.pat, (fo.is t z (ts_cons t₁' (ts_cons t₂' ts)) g₀.all).1)) g.0 g.1 in
+                let z : (z : Pattern) × PatternAt b z f.q × (f.w ≡ fold_width (fold_number f.kind) (pat_width z)) =
+                on-two (λ _. (z : Pattern) × PatternAt b z f.q × (f.w ≡ fold_width (fold_number f.kind) (pat_width z))) (λ t z t₁' t₂' ts g₀. (z, g₀.pat, (fo.is t z (ts_cons t₁' (ts_cons t₂' ts)) g₀.all).1)) g.0 g.1 in
                 let m = m₂.is y.view v.0 z.0 0 z.1 in
                 let l = (m₂.seen y.view v.0).0.within in
                 let q₁ : off st < late = omega (arith, y.offs) in
@@ -297,8 +298,8 @@ module _ (b : List ℕ) (p : ℕ) (f : Fold) (e : get_or b p 0 ≡ 0xAC) (g : St
                   omega (arith, q₂),
                 )
 
-            pub fold-did : (st₆ d₅ : List ℕ) → x ≡ spot_of o (off st₅) → st₆ ≡ set st₅ 1 (next_of o (off st₅) f.w)
-                → ((z : Pattern) → PatternAt b z f.q → f.w ≡ fold_width f.kind (pat_width z) → d₅ ≡ overlay d₄ x (node_bytes 2 (fold_node f.kind (pat_at s₄ z k) a c n u.n)))
+            pub fold-did : (st₆ : State) (d₅ : List ℕ) → x ≡ spot_of o (off st₅) → st₆ ≡ with_off st₅ (next_of o (off st₅) f.w)
+                → ((z : Pattern) → PatternAt b z f.q → f.w ≡ fold_width (fold_number f.kind) (pat_width z) → d₅ ≡ overlay d₄ x (node_bytes 2 (fold_node (fold_number f.kind) (pat_at s₄ z k) a c n u.n)))
                 → Did b p s s₄ k o st st₆ d d₅ al u.tail
             fold-did st₆ d₅ zx f₆ pt =
                 did_of b p s s₄ k o st st₆ d d₅ al u.tail y g
@@ -310,8 +311,8 @@ module _ (b : List ℕ) (p : ℕ) (f : Fold) (e : get_or b p 0 ≡ 0xAC) (g : St
                 h : FoldPlaces b p f
                 h = fold-places
 
-                t₆ : Stored st₅ st₆ (num st₅) (next_of o (off st₅) f.w) (ers st₅)
-                t₆ = set-off st₅ st₆ (next_of o (off st₅) f.w) (omega (arith, m₄.paid.three, m₃.paid.three, m₂.paid.three, m₁.paid.three, t₁.same, y.three)) f₆
+                t₆ : Stored st₆ (num st₅) (next_of o (off st₅) f.w) (ers st₅)
+                t₆ = set-off st₅ st₆ (next_of o (off st₅) f.w) f₆
 
                 is : (vw : View) → Seen vw b s k → (t : Term) (z : Pattern) (v₁ v₂ : Term) (ts : Terms) → FoldHere b p f t z v₁ v₂ ts
                     → common.Made b p (term vw.top (t_fold p (name_at b (p + 3)) t z (ts_cons v₁ (ts_cons v₂ ts))) (env_of vw b s k) (num st) al) o st st₆ d d₅ u.tail
@@ -353,7 +354,7 @@ module _ (b : List ℕ) (p : ℕ) (f : Fold) (e : get_or b p 0 ≡ 0xAC) (g : St
                     let put : Put (ms ++ E.more) (es ++ E.errs) st₁ st₅ d d₄ =
                     subst (λ (l : List Err). Put (ms ++ E.more) l st₁ st₅ d d₄) (in_row {A = Err} S.errs X.errs I.errs U.errs E.errs)
                     (subst (λ (l : List Rec). Put l (S.errs ++ (X.errs ++ (I.errs ++ (U.errs ++ E.errs)))) st₁ st₅ d d₄) (in_row {A = Rec} (slot S) X.more (slot I) (slot U) E.more) all) in
-                    let wf : f.w ≡ fold_width f.kind (pat_width z) = (fo.is t z (ts_cons v₁ (ts_cons v₂ ts)) q.all).1 in
+                    let wf : f.w ≡ fold_width (fold_number f.kind) (pat_width z) = (fo.is t z (ts_cons v₁ (ts_cons v₂ ts)) q.all).1 in
                     let wn : f.w ≡ length (rec_bytes 2 Q.self) =
                     wf ∙ ap (λ (j : ℕ). fold_width j (pat_width z)) (fo.kind ∙ ap (fold_kind (text_of b (p + 3))) (fo.is t z (ts_cons v₁ (ts_cons v₂ ts)) q.all).0)
                     ∙ own-fold p nm t z (ts_cons v₁ (ts_cons v₂ ts)) vw.top e₀ (num st) al ∙ ap (λ (O : Out). length (rec_bytes 2 O.self)) same in
@@ -361,11 +362,11 @@ module _ (b : List ℕ) (p : ℕ) (f : Fold) (e : get_or b p 0 ≡ 0xAC) (g : St
                     subst (λ (O : Out). common.Made b p O o st st₆ d d₅ u.tail) (sym same)
                     (record {
                       own =
-                          own-node Q o f.w x st st₁ st₅ st₆ d d₄ d₅ y.three wn r₁ put zx f₆
+                          own-node Q o f.w x st st₁ st₅ st₆ d d₄ d₅ wn r₁ put zx f₆
                           (pt z q.pat wf
                           ∙ ap₂ (λ (j : ℕ) (l : Pat). overlay d₄ x (node_bytes 2 (fold_node j l a c n u.n))) fo.kind pk
                           ∙ ap₂ (λ (j l : ℕ). overlay d₄ x (node_bytes 2 (fold_node (fold_kind nm.text f.a) X.made j l n u.n))) (a₁ ∙ t₁.num) (c₃ ∙ n₃)
                           ∙ ap₂ (λ (j l : ℕ). overlay d₄ x (node_bytes 2 (fold_node (fold_kind nm.text f.a) X.made (num st) K j l))) (n₄ ∙ n₄') p_u.1);
                       tail = p_u.2;
-                      wide = omega (arith, wn, wf, wide-fold f.kind (pat_width z), put.offs, m₁.paid.offs, m₂.wide z q.pat, m₃.paid.offs, m₄.paid.offs, h.at, h.pat, h.init, h.update);
+                      wide = omega (arith, wn, wf, wide-fold (fold_number f.kind) (pat_width z), put.offs, m₁.paid.offs, m₂.wide z q.pat, m₃.paid.offs, m₄.paid.offs, h.at, h.pat, h.init, h.update);
                     })

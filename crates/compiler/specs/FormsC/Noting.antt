@@ -1,8 +1,9 @@
 -- A note in row k: what it keeps, that it is out of view, and what comes behind it; the state's numbers after a store. Assumes nothing.
-use Rattle.std.specs.Prelude.{ℕ, suc, ◌+◌, ◌-◌, ◌*◌, ◌≤◌, ◌<◌, ◌≡◌, List, length, get_or, set, take, drop}
+use Rattle.std.specs.Prelude.{ℕ, suc, ◌+◌, ◌-◌, ◌*◌, ◌≤◌, ◌<◌, ◌≡◌, List, length, get_or, take, drop}
 use Rattle.std.proofs.Common.{arith, sym, ap, ap₂, subst, ◌∙◌, length-take, length-drop, drop-cons}
 use Rattle.tree.specs.Rose.{end_of, text_of}
-use Rattle.puts.specs.State.{num, off, ers, late, start_of, spot_of}
+use Rattle.puts.specs.declared.state.State.{State}
+use Rattle.puts.specs.State.{num, off, ers, late, start_of, spot_of, with_num, with_off}
 use Rattle.puts.specs.Rooms.{start-high, placed-within, spot-within}
 use Rattle.cells.specs.Cells.{View, Seen, env_of, noted, cell, number_at, last_at, kind_at}
 use Rattle.rows.specs.Kept.{below_at}
@@ -47,19 +48,18 @@ module _ (k : ℕ) (s s' : List ℕ) (e : take (4 * (k + 1)) s' ≡ take (4 * (k
 
 -- ---- room for a note of a field from q on, whose first number is one of those that there were
 
-pub note-room : (b s : List ℕ) (k q z : ℕ) (st : List ℕ) → Ready b s k q z st → q + 3 ≤ z → 4 * k + 4 ≤ length s
+pub note-room : (b s : List ℕ) (k q z : ℕ) (st : State) → Ready b s k q z st → q + 3 ≤ z → 4 * k + 4 ≤ length s
 note-room b s k q z st r h = omega (arith, r.spare, h, r.within)
 
-pub note-few : (b s : List ℕ) (k q z : ℕ) (st : List ℕ) → Ready b s k q z st → q + 3 ≤ z → num st < 65536
+pub note-few : (b s : List ℕ) (k q z : ℕ) (st : State) → Ready b s k q z st → q + 3 ≤ z → num st < 65536
 note-few b s k q z st r h = omega (arith, r.nums, h)
 
 -- what stands behind it, at y, is ready for the next row
-pub ready-next : (b s s₁ : List ℕ) (k q x y z : ℕ) (st st₁ : List ℕ) → Ready b s k q z st → q ≤ x → x ≤ y → q + 3 ≤ y → y ≤ z → Paid x y k s s₁ st st₁
+pub ready-next : (b s s₁ : List ℕ) (k q x y z : ℕ) (st st₁ : State) → Ready b s k q z st → q ≤ x → x ≤ y → q + 3 ≤ y → y ≤ z → Paid x y k s s₁ st st₁
     → ((vw : View) → Seen vw b s k → Seen vw b s₁ (k + 1) × (env_of vw b s₁ (k + 1) ≡ env_of vw b s k)) → Ready b s₁ (k + 1) y z st₁
 ready-next b s s₁ k q x y z st st₁ r h i j l p f =
     record {
       small = r.small;
-      three = p.three ∙ r.three;
       view = r.view;
       seen = (f r.view r.seen).0;
       order = l;
@@ -71,7 +71,7 @@ ready-next b s s₁ k q x y z st st₁ r h i j l p f =
     }
 
 -- the rows below k, and what is seen at k + 1, after a callee and a note
-pub seen-then : (b s s₁ s₂ : List ℕ) (k x y kind a z : ℕ) (st st₁ : List ℕ) → Paid x y k s s₁ st st₁ → Noting b s₁ s₂ k kind a z
+pub seen-then : (b s s₁ s₂ : List ℕ) (k x y kind a z : ℕ) (st st₁ : State) → Paid x y k s s₁ st st₁ → Noting b s₁ s₂ k kind a z
     → (vw : View) → Seen vw b s k → Seen vw b s₂ (k + 1) × (env_of vw b s₂ (k + 1) ≡ env_of vw b s k)
 seen-then b s s₁ s₂ k x y kind a z st st₁ p n vw g =
     let v = keeps b s s₁ k x y st st₁ p vw g in
@@ -79,29 +79,29 @@ seen-then b s s₁ s₂ k x y kind a z st st₁ p n vw g =
     (w.0, w.1 ∙ v.1)
 
 -- what a note costs: nothing
-pub paid-noted : (b s s₁ s₂ : List ℕ) (k x y kind a z : ℕ) (st st₁ : List ℕ) → Paid x y k s s₁ st st₁ → Noting b s₁ s₂ k kind a z → Paid x y k s s₂ st st₁
-paid-noted b s s₁ s₂ k x y kind a z st st₁ p n = record { kept = n.kept ∙ p.kept; same = n.same ∙ p.same; three = p.three; nums = p.nums; offs = p.offs; errs = p.errs }
+pub paid-noted : (b s s₁ s₂ : List ℕ) (k x y kind a z : ℕ) (st st₁ : State) → Paid x y k s s₁ st st₁ → Noting b s₁ s₂ k kind a z → Paid x y k s s₂ st st₁
+paid-noted b s s₁ s₂ k x y kind a z st st₁ p n = record { kept = n.kept ∙ p.kept; same = n.same ∙ p.same; nums = p.nums; offs = p.offs; errs = p.errs }
 
-pub ready-noted : (b s s₁ s₂ : List ℕ) (k q x y z kind a c : ℕ) (st st₁ : List ℕ) → Ready b s k q z st → q ≤ x → x ≤ y → q + 3 ≤ y → y ≤ z
+pub ready-noted : (b s s₁ s₂ : List ℕ) (k q x y z kind a c : ℕ) (st st₁ : State) → Ready b s k q z st → q ≤ x → x ≤ y → q + 3 ≤ y → y ≤ z
     → Paid x y k s s₁ st st₁ → Noting b s₁ s₂ k kind a c → Ready b s₂ (k + 1) y z st₁
 ready-noted b s s₁ s₂ k q x y z kind a c st st₁ r h i j l p n =
     ready-next b s s₂ k q x y z st st₁ r h i j l (paid-noted b s s₁ s₂ k x y kind a c st st₁ p n) (seen-then b s s₁ s₂ k x y kind a c st st₁ p n)
 
 -- ---- numbers of the state after a store, and where an own record may stand, as far as additions ask
 
-pub reserved : (o w : ℕ) (st st₁ : List ℕ) → length st ≡ 3 → st₁ ≡ set st 1 (start_of o (off st) w) → (length st₁ ≡ 3) × (num st₁ ≡ num st) × (off st₁ ≤ off st + w) × (ers st₁ ≡ ers st)
-reserved o w st st₁ t e =
-    let a = set-off st st₁ (start_of o (off st) w) t e in
-    (a.same ∙ t, a.num, omega (arith, a.off, start-high o (off st) w), a.ers)
+pub reserved : (o w : ℕ) (st st₁ : State) → st₁ ≡ with_off st (start_of o (off st) w) → (num st₁ ≡ num st) × (off st₁ ≤ off st + w) × (ers st₁ ≡ ers st)
+reserved o w st st₁ e =
+    let a = set-off st st₁ (start_of o (off st) w) e in
+    (a.num, omega (arith, a.off, start-high o (off st) w), a.ers)
 
-pub inserted : (w : ℕ) (st st₁ : List ℕ) → length st ≡ 3 → st₁ ≡ set (set st 0 (num st + 1)) 1 (off st + w) → (length st₁ ≡ 3) × (num st₁ ≡ num st + 1) × (off st₁ ≡ off st + w) × (ers st₁ ≡ ers st)
-inserted w st st₁ t e = let a = set_both st st₁ (num st + 1) (off st + w) t e in (a.same ∙ t, a.num, a.off, a.ers)
+pub inserted : (w : ℕ) (st st₁ : State) → st₁ ≡ with_off (with_num st (num st + 1)) (off st + w) → (num st₁ ≡ num st + 1) × (off st₁ ≡ off st + w) × (ers st₁ ≡ ers st)
+inserted w st st₁ e = let a = set_both st st₁ (num st + 1) (off st + w) e in (a.num, a.off, a.ers)
 
-pub placed-low : (o : ℕ) (st : List ℕ) → Placed o st → off st ≤ late → o ≤ late
+pub placed-low : (o : ℕ) (st : State) → Placed o st → off st ≤ late → o ≤ late
 placed-low o st p h = placed-within o (off st) p h
 
 -- where the own record stands
-pub spot-low : (o x : ℕ) (st st₁ : List ℕ) → Placed o st → off st ≤ late → off st₁ ≤ late → x ≡ spot_of o (off st₁) → x ≤ late
+pub spot-low : (o x : ℕ) (st st₁ : State) → Placed o st → off st ≤ late → off st₁ ≤ late → x ≡ spot_of o (off st₁) → x ≤ late
 spot-low o x st st₁ p h g e = omega (arith, e, spot-within o (off st₁) late (placed-within o (off st) p h) g)
 
 -- ---- a text less its first byte, as a part of the bytes: that of the field at q, up to its end z

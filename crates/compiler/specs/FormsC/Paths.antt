@@ -1,7 +1,7 @@
 -- Paths: bounds, parts, rows of parts, and the path itself. Assumes nothing.
 use Prim.Native.Nat.{ℕ, suc, ◌+◌, ◌*◌, ◌^◌, ◌≤◌, ◌<◌}
 use Rattle.std.proofs.Common.{arith, sym, ap, ap₂, subst, ◌∙◌, length-append}
-use Rattle.std.specs.Prelude.{◌≡◌, refl, Bool, true, false, cond, List, ◌∷◌, ◌++◌, length, get_or, set}
+use Rattle.std.specs.Prelude.{◌≡◌, refl, Bool, true, false, cond, List, ◌∷◌, ◌++◌, length, get_or}
 use Rattle.std.proofs.Math.Option.{Option}
 use Rattle.fields.specs.Room.{overlay}
 use Rattle.tree.specs.Rose.{Roses, end_of, rnil, rcons, At, Row, row-le}
@@ -19,7 +19,8 @@ use Rattle.reads.specs.Widths.{bound_width, part_width, parts_width}
 use Rattle.reads.specs.Lengths.{own-path}
 use Rattle.records.specs.Steps.{PathReady}
 use Rattle.reads.specs.Shapes.{PartAt, RangeAt, PathAt, on-index, on-range, on-parts-cons, on-parts-nil, on-path, tag-yes, tag-no}
-use Rattle.puts.specs.State.{num, off, late, start_of, spot_of, next_of, Put}
+use Rattle.puts.specs.declared.state.State.{State}
+use Rattle.puts.specs.State.{num, off, late, start_of, spot_of, next_of, Put, with_off}
 use Rattle.puts.specs.Rooms.{put-none, put_then, own-two, table-append, start-high, spot-within, placed-within}
 use Rattle.cells.specs.Cells.{View, Seen, env_of, noted, number_at, last_at}
 use Rattle.cells.specs.Notes.{bound_at, step_at, steps_at}
@@ -34,13 +35,13 @@ use Rattle.compiler.specs.FormsC.Noting.{reserved, Noting, noting, note-room, no
 abbrev pub BoundHere : List ℕ → ℕ → ℕ → ℕ → Type 0
 BoundHere b q z tag = (x : Bound) × (rs : Roses) × NoHead tag rs × Row b (f_bound tag x rs) q z
 
-pub bound-ready : (b s : List ℕ) (k q z tag : ℕ) (st : List ℕ) → Ready b s k q z st → BoundHere b q z tag → is_tag b q z tag ≡ true → Ready b s k (q + 3) (end_of b (q + 3)) st × Stands b (q + 3)
+pub bound-ready : (b s : List ℕ) (k q z tag : ℕ) (st : State) → Ready b s k q z st → BoundHere b q z tag → is_tag b q z tag ≡ true → Ready b s k (q + 3) (end_of b (q + 3)) st × Stands b (q + 3)
 bound-ready b s k q z tag st r g e =
     let y = tag-yes b q z tag e in
     on-bound b tag q z g.1 (λ _. Ready b s k (q + 3) (end_of b (q + 3)) st × Stands b (q + 3)) g.2 y.0 y.1
     (λ t f h l w. (ready-part b s k q (q + 3) z (end_of b (q + 3)) st r (omega arith) (omega arith) (omega (arith, l, row-le b g.1 (end_of b q) z w)), (t, h))) g.0 g.3
 
-pub bound-is : (b : List ℕ) (q z tag : ℕ) (s s' : List ℕ) (k : ℕ) (st st' d d' : List ℕ) (r : ℕ) → BoundHere b q z tag → is_tag b q z tag ≡ true
+pub bound-is : (b : List ℕ) (q z tag : ℕ) (s s' : List ℕ) (k : ℕ) (st st' : State) (d d' : List ℕ) (r : ℕ) → BoundHere b q z tag → is_tag b q z tag ≡ true
     → Laid b (q + 3) s s' k st st' d d' 0 r → BoundIs b q z tag s s' k st st' d d'
 unfolding term
 bound-is b q z tag s s' k st st' d d' r g e a =
@@ -53,7 +54,7 @@ bound-is b q z tag s s' k st st' d d' r g e a =
       paid = subst (λ (p : ℕ). Paid q p k s s' st st') (sym (ap (λ (u : Bool). cond u (end_of b q) q) e)) (paid-wider q (q + 3 + 1) (end_of b (q + 3)) (end_of b q) k s s' st st' (omega arith) (omega (arith, l)) a.paid);
     }
 
-pub bound-none : (b : List ℕ) (q z tag : ℕ) (s : List ℕ) (k : ℕ) (st d : List ℕ) → is_tag b q z tag ≡ false → BoundIs b q z tag s s k st st d d
+pub bound-none : (b : List ℕ) (q z tag : ℕ) (s : List ℕ) (k : ℕ) (st : State) (d : List ℕ) → is_tag b q z tag ≡ false → BoundIs b q z tag s s k st st d d
 unfolding term
 bound-none b q z tag s k st d e =
     record {
@@ -61,7 +62,7 @@ bound-none b q z tag s k st d e =
           on-no-bound b tag q z rs (λ (x : Bound). let m = bound vw.top x (env_of vw b s k) (num st) in Put m.more m.errs st st d d × (bound_at x (num st) ≡ m.made)) (tag-no b q z tag e)
           (λ w. (put-none st d, refl)) x h;
       paid = subst (λ (p : ℕ). Paid q p k s s st st) (sym (ap (λ (u : Bool). cond u (end_of b q) q) e))
-          (record { kept = refl; same = refl; three = refl; nums = omega arith; offs = omega arith; errs = omega arith });
+          (record { kept = refl; same = refl; nums = omega arith; offs = omega arith; errs = omega arith });
     }
 
 -- what follows a bound starts behind it, if it is there
@@ -88,12 +89,12 @@ PartHere b q = (x : Part) × PartAt b x q
 pub part-fits : (b : List ℕ) (q : ℕ) → PartHere b q → end_of b q ≤ length b
 part-fits b q g = row_fits b (f_part g.0) rnil q (end_of b q) g.1
 
-pub index-ready : (b s : List ℕ) (k q : ℕ) (st : List ℕ) → get_or b q 0 ≡ 0xBE → Ready b s k q (end_of b q) st → PartHere b q → Ready b s k (q + 3) (end_of b (q + 3)) st × Stands b (q + 3)
+pub index-ready : (b s : List ℕ) (k q : ℕ) (st : State) → get_or b q 0 ≡ 0xBE → Ready b s k q (end_of b q) st → PartHere b q → Ready b s k (q + 3) (end_of b (q + 3)) st × Stands b (q + 3)
 index-ready b s k q st e r g =
     on-index b q (λ _. Ready b s k (q + 3) (end_of b (q + 3)) st × Stands b (q + 3)) e
     (λ t m i. (ready-part b s k q (q + 3) (end_of b q) (end_of b (q + 3)) st r (omega arith) (omega arith) (row-le b (f_mark m rnil) (end_of b (q + 3)) (end_of b q) i.mark), (t, i.body))) g.0 g.1
 
-pub index_is : (b : List ℕ) (q : ℕ) (s s₁ s₂ : List ℕ) (k a : ℕ) (st st₁ d d₁ : List ℕ) (r : ℕ) → get_or b q 0 ≡ 0xBE → Ready b s k q (end_of b q) st → PartHere b q → a ≡ num st
+pub index_is : (b : List ℕ) (q : ℕ) (s s₁ s₂ : List ℕ) (k a : ℕ) (st st₁ : State) (d d₁ : List ℕ) (r : ℕ) → get_or b q 0 ≡ 0xBE → Ready b s k q (end_of b q) st → PartHere b q → a ≡ num st
     → Laid b (q + 3) s s₁ k st st₁ d d₁ 0 r → s₂ ≡ noted s₁ k 6 a 0 → PartIs b q s s₂ k st st₁ d d₁
 unfolding term step_at
 index_is b q s s₁ s₂ k a st st₁ d d₁ r e y g a₀ m f =
@@ -113,7 +114,7 @@ index_is b q s s₁ s₂ k a st st₁ d d₁ r e y g a₀ m f =
         noting b s₁ s₂ k 6 a 0 (omega (arith, note-room b s k q (end_of b q) st y (omega arith), m.paid.same))
         (omega (arith, a₀, note-few b s k q (end_of b q) st y (omega arith))) (omega arith) (omega arith) f
 
-pub range-from : (b s : List ℕ) (k q : ℕ) (st : List ℕ) → (get_or b q 0 ≡ 0xBE → ⊥) → Ready b s k q (end_of b q) st → PartHere b q → Ready b s k (q + 3) (end_of b q) st × BoundHere b (q + 3) (end_of b q) 0xC1
+pub range-from : (b s : List ℕ) (k q : ℕ) (st : State) → (get_or b q 0 ≡ 0xBE → ⊥) → Ready b s k q (end_of b q) st → PartHere b q → Ready b s k (q + 3) (end_of b q) st × BoundHere b (q + 3) (end_of b q) 0xC1
 range-from b s k q st e r g = (
   ready-part b s k q (q + 3) (end_of b q) (end_of b q) st r (omega arith) (omega arith) (omega arith),
   on-range b q (λ _. BoundHere b (q + 3) (end_of b q) 0xC1) e (λ l u m i. (l, f_bound 0xC2 u (f_mark m rnil), no-from u m, i.row)) g.0 g.1,
@@ -128,7 +129,7 @@ range-rest b q e g =
     (row-le b (f_bound 0xC2 u (f_mark m rnil)) (past b (q + 3) (end_of b q) 0xC1) (end_of b q) w, (u, f_mark m rnil, no-upto m, w)))
     g.0 g.1
 
-module _ (b : List ℕ) (q : ℕ) (s s₁ s₂ : List ℕ) (k a z : ℕ) (st st₁ d d₁ : List ℕ) (e : get_or b q 0 ≡ 0xBE → ⊥) (y : Ready b s k q (end_of b q) st) (g : PartHere b q) (a₀ : a ≡ num st)
+module _ (b : List ℕ) (q : ℕ) (s s₁ s₂ : List ℕ) (k a z : ℕ) (st st₁ : State) (d d₁ : List ℕ) (e : get_or b q 0 ≡ 0xBE → ⊥) (y : Ready b s k q (end_of b q) st) (g : PartHere b q) (a₀ : a ≡ num st)
     (m : BoundIs b (q + 3) (end_of b q) 0xC1 s s₁ k st st₁ d d₁) (f : s₂ ≡ noted s₁ k 6 a z) where
   pub range-noted : Noting b s₁ s₂ k 6 a z
   range-noted =
@@ -144,7 +145,7 @@ module _ (b : List ℕ) (q : ℕ) (s s₁ s₂ : List ℕ) (k a z : ℕ) (st st�
       )
 
   -- the end, and so the part
-  pub range-done : (s₃ st₂ d₂ : List ℕ) → z ≡ num st₁ → BoundIs b (past b (q + 3) (end_of b q) 0xC1) (end_of b q) 0xC2 s₂ s₃ (k + 1) st₁ st₂ d₁ d₂ → PartIs b q s s₃ k st st₂ d d₂
+  pub range-done : (s₃ : List ℕ) (st₂ : State) (d₂ : List ℕ) → z ≡ num st₁ → BoundIs b (past b (q + 3) (end_of b q) 0xC1) (end_of b q) 0xC2 s₂ s₃ (k + 1) st₁ st₂ d₁ d₂ → PartIs b q s s₃ k st st₂ d d₂
   unfolding term step_at
   range-done s₃ st₂ d₂ z₀ l =
       record {
@@ -194,7 +195,7 @@ module _ (b : List ℕ) (q : ℕ) (s s₁ s₂ : List ℕ) (k a z : ℕ) (st st�
           )
 
 -- the same, z being where the part ends and x where its start does
-pub range-from-at : (b s : List ℕ) (k q z : ℕ) (st : List ℕ) → z ≡ end_of b q → (get_or b q 0 ≡ 0xBE → ⊥) → Ready b s k q (end_of b q) st → PartHere b q → Ready b s k (q + 3) z st × BoundHere b (q + 3) z 0xC1
+pub range-from-at : (b s : List ℕ) (k q z : ℕ) (st : State) → z ≡ end_of b q → (get_or b q 0 ≡ 0xBE → ⊥) → Ready b s k q (end_of b q) st → PartHere b q → Ready b s k (q + 3) z st × BoundHere b (q + 3) z 0xC1
 range-from-at b s k q z st z₀ e r g = subst (λ (z : ℕ). Ready b s k (q + 3) z st × BoundHere b (q + 3) z 0xC1) (sym z₀) (range-from b s k q st e r g)
 
 -- a row that goes on has a field within the bytes
@@ -209,7 +210,7 @@ range-past b q z z₀ e g = (
   λ l. on-range b q (λ _. end_of b (q + 3) ≤ length b) e (λ x y m i. row_on b (f_bound 0xC1 x (f_bound 0xC2 y (f_mark m rnil))) (q + 3) (end_of b q) i.row (omega (arith, l, z₀))) g.0 g.1,
 )
 
-pub range-upto-at : (b : List ℕ) (q : ℕ) (s s₁ s₂ : List ℕ) (k a n z x : ℕ) (st st₁ d d₁ : List ℕ) → z ≡ end_of b q → x ≡ past b (q + 3) z 0xC1 → (get_or b q 0 ≡ 0xBE → ⊥) → Ready b s k q (end_of b q) st → PartHere b q
+pub range-upto-at : (b : List ℕ) (q : ℕ) (s s₁ s₂ : List ℕ) (k a n z x : ℕ) (st st₁ : State) (d d₁ : List ℕ) → z ≡ end_of b q → x ≡ past b (q + 3) z 0xC1 → (get_or b q 0 ≡ 0xBE → ⊥) → Ready b s k q (end_of b q) st → PartHere b q
     → a ≡ num st → BoundIs b (q + 3) z 0xC1 s s₁ k st st₁ d d₁ → s₂ ≡ noted s₁ k 6 a n → Ready b s₂ (k + 1) x z st₁ × BoundHere b x z 0xC2 × (q + 3 ≤ x) × (x ≤ z)
 range-upto-at b q s s₁ s₂ k a n z x st st₁ d d₁ z₀ x₀ e y g a₀ =
     subst (λ (z : ℕ). x ≡ past b (q + 3) z 0xC1 → BoundIs b (q + 3) z 0xC1 s s₁ k st st₁ d d₁ → s₂ ≡ noted s₁ k 6 a n → Ready b s₂ (k + 1) x z st₁ × BoundHere b x z 0xC2 × (q + 3 ≤ x) × (x ≤ z)) (sym z₀)
@@ -217,7 +218,7 @@ range-upto-at b q s s₁ s₂ k a n z x st st₁ d d₁ z₀ x₀ e y g a₀ =
     subst (λ (x : ℕ). Ready b s₂ (k + 1) x (end_of b q) st₁ × BoundHere b x (end_of b q) 0xC2 × (q + 3 ≤ x) × (x ≤ end_of b q)) (sym i)
     (let w = range-upto b q s s₁ s₂ k a n st st₁ d d₁ e y g a₀ m f in (w.0, w.1, past-low b (q + 3) (end_of b q) 0xC1, (range-rest b q e g).0))) x₀
 
-pub range-done-at : (b : List ℕ) (q : ℕ) (s s₁ s₂ s₃ : List ℕ) (k a n z x : ℕ) (st st₁ st₂ d d₁ d₂ : List ℕ) → z ≡ end_of b q → x ≡ past b (q + 3) z 0xC1 → (get_or b q 0 ≡ 0xBE → ⊥) → Ready b s k q (end_of b q) st → PartHere b q
+pub range-done-at : (b : List ℕ) (q : ℕ) (s s₁ s₂ s₃ : List ℕ) (k a n z x : ℕ) (st st₁ st₂ : State) (d d₁ d₂ : List ℕ) → z ≡ end_of b q → x ≡ past b (q + 3) z 0xC1 → (get_or b q 0 ≡ 0xBE → ⊥) → Ready b s k q (end_of b q) st → PartHere b q
     → a ≡ num st → n ≡ num st₁ → BoundIs b (q + 3) z 0xC1 s s₁ k st st₁ d d₁ → s₂ ≡ noted s₁ k 6 a n → BoundIs b x z 0xC2 s₂ s₃ (k + 1) st₁ st₂ d₁ d₂ → PartIs b q s s₃ k st st₂ d d₂
 range-done-at b q s s₁ s₂ s₃ k a n z x st st₁ st₂ d d₁ d₂ z₀ x₀ e y g a₀ n₀ =
     subst (λ (z : ℕ). x ≡ past b (q + 3) z 0xC1 → BoundIs b (q + 3) z 0xC1 s s₁ k st st₁ d d₁ → s₂ ≡ noted s₁ k 6 a n → BoundIs b x z 0xC2 s₂ s₃ (k + 1) st₁ st₂ d₁ d₂ → PartIs b q s s₃ k st st₂ d d₂) (sym z₀)
@@ -232,7 +233,7 @@ PartsHere b p z = (xs : Parts) × Row b (f_parts xs rnil) p z
 pub parts-head : (b : List ℕ) (p z : ℕ) → p < z → PartsHere b p z → PartHere b p × PartsHere b (end_of b p) z
 parts-head b p z l g = on-parts-cons b p z (λ _. PartHere b p × PartsHere b (end_of b p) z) l (λ x xs h i j. ((x, h), (xs, j))) g.0 g.1
 
-pub parts-nil : (b : List ℕ) (p z : ℕ) (s : List ℕ) (k : ℕ) (st d : List ℕ) → z ≤ p → PartsHere b p z → Parted b p z s s k st st d d k
+pub parts-nil : (b : List ℕ) (p z : ℕ) (s : List ℕ) (k : ℕ) (st : State) (d : List ℕ) → z ≤ p → PartsHere b p z → Parted b p z s s k st st d d k
 unfolding term steps_at parts_width
 parts-nil b p z s k st d l g =
     let e : p ≤ z = row-le b (f_parts g.0 rnil) p z g.1 in
@@ -240,10 +241,10 @@ parts-nil b p z s k st d l g =
       is = λ vw v. on-parts-nil b p z (λ (xs : Parts). let m = parts vw.top xs (env_of vw b s k) (num st) in Put m.more m.errs st st d d × (steps_at s xs k ≡ m.made) × (k ≡ k + length m.made)) l (put-none st d, refl, omega arith);
       rows = omega (arith, e);
       wide = on-parts-nil b p z (λ (xs : Parts). off st + parts_width xs + 64 * p ≤ off st + 64 * z) l (omega (arith, e));
-      paid = record { kept = refl; same = refl; three = refl; nums = omega (arith, e); offs = omega (arith, e); errs = omega (arith, e) };
+      paid = record { kept = refl; same = refl; nums = omega (arith, e); offs = omega (arith, e); errs = omega (arith, e) };
     }
 
-pub parts-cons : (b : List ℕ) (p z : ℕ) (s s₁ s' : List ℕ) (k : ℕ) (st st₁ st' d d₁ d' : List ℕ) (r : ℕ) → p < z → PartIs b p s s₁ k st st₁ d d₁
+pub parts-cons : (b : List ℕ) (p z : ℕ) (s s₁ s' : List ℕ) (k : ℕ) (st st₁ st' : State) (d d₁ d' : List ℕ) (r : ℕ) → p < z → PartIs b p s s₁ k st st₁ d d₁
     → Parted b (end_of b p) z s₁ s' (k + 1) st₁ st' d₁ d' r → Parted b p z s s' k st st' d d' r
 unfolding term steps_at parts_width
 parts-cons b p z s s₁ s' k st st₁ st' d d₁ d' r l a c =
@@ -274,26 +275,29 @@ parts-cons b p z s s₁ s' k st st₁ st' d d₁ d' r l a c =
         )
 
 -- the loop over them: p is the next part's place, i its row
-pub record Parting (b : List ℕ) (q z : ℕ) (s₀ : List ℕ) (k : ℕ) (st₀ d₀ : List ℕ) (p i : ℕ) (s st d : List ℕ) : Type 0 where
-  pub goes : (s' st' d' : List ℕ) (r : ℕ) → Parted b p z s s' i st st' d d' r → Parted b q z s₀ s' k st₀ st' d₀ d' r
+pub record Parting (b : List ℕ) (q z : ℕ) (s₀ : List ℕ) (k : ℕ) (st₀ : State) (d₀ : List ℕ) (p i : ℕ) (s : List ℕ) (st : State) (d : List ℕ) : Type 0 where
+  pub goes : (s' : List ℕ) (st' : State) (d' : List ℕ) (r : ℕ) → Parted b p z s s' i st st' d d' r → Parted b q z s₀ s' k st₀ st' d₀ d' r
   pub low : q ≤ p
   pub ready : Ready b s i p z st
   pub here : PartsHere b p z
   pub same : length s ≡ length s₀
-  pub three : length st ≡ length st₀
   pub room : length d ≡ length d₀
 
-pub parts-start : (b : List ℕ) (q z : ℕ) (s : List ℕ) (k : ℕ) (st d : List ℕ) → Ready b s k q z st → PartsHere b q z → Parting b q z s k st d q k s st d
-parts-start b q z s k st d y g = record { goes = λ s' st' d' r f. f; low = omega arith; ready = y; here = g; same = refl; three = refl; room = refl }
+-- p is where the next one stands
+pub parts-on : (b : List ℕ) (q z : ℕ) (s₀ : List ℕ) (k : ℕ) (st₀ : State) (d₀ : List ℕ) (n p i : ℕ) (s : List ℕ) (st : State) (d : List ℕ) → n ≡ p → Parting b q z s₀ k st₀ d₀ n i s st d → Parting b q z s₀ k st₀ d₀ p i s st d
+parts-on b q z s₀ k st₀ d₀ n p i s st d e g = subst (λ (r : ℕ). Parting b q z s₀ k st₀ d₀ r i s st d) e g
+
+pub parts-start : (b : List ℕ) (q z : ℕ) (s : List ℕ) (k : ℕ) (st : State) (d : List ℕ) → Ready b s k q z st → PartsHere b q z → Parting b q z s k st d q k s st d
+parts-start b q z s k st d y g = record { goes = λ s' st' d' r f. f; low = omega arith; ready = y; here = g; same = refl; room = refl }
 
 -- the part at p is ready
-pub parts_next : (b : List ℕ) (q z : ℕ) (s₀ : List ℕ) (k : ℕ) (st₀ d₀ : List ℕ) (p i : ℕ) (s st d : List ℕ) → Parting b q z s₀ k st₀ d₀ p i s st d → p < z
+pub parts_next : (b : List ℕ) (q z : ℕ) (s₀ : List ℕ) (k : ℕ) (st₀ : State) (d₀ : List ℕ) (p i : ℕ) (s : List ℕ) (st : State) (d : List ℕ) → Parting b q z s₀ k st₀ d₀ p i s st d → p < z
     → Ready b s i p (end_of b p) st × PartHere b p × (end_of b p ≤ length b)
 parts_next b q z s₀ k st₀ d₀ p i s st d v l =
     let h = parts-head b p z l v.here in
     (ready-part b s i p p z (end_of b p) st v.ready (omega arith) (omega arith) (row-le b (f_parts h.1.0 rnil) (end_of b p) z h.1.1), h.0, part-fits b p h.0)
 
-pub parts_more : (b : List ℕ) (q z : ℕ) (s₀ : List ℕ) (k : ℕ) (st₀ d₀ : List ℕ) (p i : ℕ) (s st d s₁ st₁ d₁ : List ℕ) → Parting b q z s₀ k st₀ d₀ p i s st d → p < z
+pub parts_more : (b : List ℕ) (q z : ℕ) (s₀ : List ℕ) (k : ℕ) (st₀ : State) (d₀ : List ℕ) (p i : ℕ) (s : List ℕ) (st : State) (d s₁ : List ℕ) (st₁ : State) (d₁ : List ℕ) → Parting b q z s₀ k st₀ d₀ p i s st d → p < z
     → PartIs b p s s₁ i st st₁ d d₁ → Parting b q z s₀ k st₀ d₀ (end_of b p) (i + 1) s₁ st₁ d₁
 parts_more b q z s₀ k st₀ d₀ p i s st d s₁ st₁ d₁ v l a =
     let h = parts-head b p z l v.here in
@@ -303,15 +307,14 @@ parts_more b q z s₀ k st₀ d₀ p i s st d s₁ st₁ d₁ v l a =
       ready = ready-next b s s₁ i p p (end_of b p) z st st₁ v.ready (omega arith) (omega arith) (omega arith) (row-le b (f_parts h.1.0 rnil) (end_of b p) z h.1.1) a.paid a.seen;
       here = h.1;
       same = a.paid.same ∙ v.same;
-      three = a.paid.three ∙ v.three;
       room = (a.is v.ready.view v.ready.seen h.0.0 h.0.1).0.size ∙ v.room;
     }
 
-pub parts-done : (b : List ℕ) (q z : ℕ) (s₀ : List ℕ) (k : ℕ) (st₀ d₀ : List ℕ) (p i : ℕ) (s st d : List ℕ) → Parting b q z s₀ k st₀ d₀ p i s st d → z ≤ p → Parted b q z s₀ s k st₀ st d₀ d i
+pub parts-done : (b : List ℕ) (q z : ℕ) (s₀ : List ℕ) (k : ℕ) (st₀ : State) (d₀ : List ℕ) (p i : ℕ) (s : List ℕ) (st : State) (d : List ℕ) → Parting b q z s₀ k st₀ d₀ p i s st d → z ≤ p → Parted b q z s₀ s k st₀ st d₀ d i
 parts-done b q z s₀ k st₀ d₀ p i s st d v l = v.goes s st d i (parts-nil b p z s i st d l v.here)
 
 -- the same, x being where the part ends
-pub parts_again : (b : List ℕ) (q z : ℕ) (s₀ : List ℕ) (k : ℕ) (st₀ d₀ : List ℕ) (p i x : ℕ) (s st d s₁ st₁ d₁ : List ℕ) → Parting b q z s₀ k st₀ d₀ p i s st d → p < z
+pub parts_again : (b : List ℕ) (q z : ℕ) (s₀ : List ℕ) (k : ℕ) (st₀ : State) (d₀ : List ℕ) (p i x : ℕ) (s : List ℕ) (st : State) (d s₁ : List ℕ) (st₁ : State) (d₁ : List ℕ) → Parting b q z s₀ k st₀ d₀ p i s st d → p < z
     → PartIs b p s s₁ i st st₁ d d₁ → x ≡ end_of b p → Parting b q z s₀ k st₀ d₀ x (i + 1) s₁ st₁ d₁
 parts_again b q z s₀ k st₀ d₀ p i x s st d s₁ st₁ d₁ v l a x₀ =
     subst (λ (x : ℕ). Parting b q z s₀ k st₀ d₀ x (i + 1) s₁ st₁ d₁) (sym x₀) (parts_more b q z s₀ k st₀ d₀ p i s st d s₁ st₁ d₁ v l a)
@@ -321,13 +324,13 @@ parts_again b q z s₀ k st₀ d₀ p i x s st d s₁ st₁ d₁ v l a x₀ =
 pub path-shape : (b : List ℕ) (p : ℕ) → get_or b p 0 ≡ 0xAE → Stands b p → (u : Term) × (ps : Parts) × PathAt b p u ps
 path-shape b p e g = on-path b p (λ _. (u : Term) × (ps : Parts) × PathAt b p u ps) e (λ u ps h. (u, ps, h)) g.0 g.1
 
-pub path-ready : (b s : List ℕ) (k p o w : ℕ) (st st₁ : List ℕ) → get_or b p 0 ≡ 0xAE → Ready b s k (p + 1) (end_of b p) st → Stands b p → w ≤ 2097152 → st₁ ≡ set st 1 (start_of o (off st) w)
+pub path-ready : (b s : List ℕ) (k p o w : ℕ) (st st₁ : State) → get_or b p 0 ≡ 0xAE → Ready b s k (p + 1) (end_of b p) st → Stands b p → w ≤ 2097152 → st₁ ≡ with_off st (start_of o (off st) w)
     → Ready b s k (p + 3) (end_of b (p + 3)) st₁ × Stands b (p + 3)
 path-ready b s k p o w st st₁ e y g h f =
     let a = path-shape b p e g in
     (ready-start b s k (p + 1) (p + 3) (end_of b p) (end_of b (p + 3)) o w st st₁ y (omega arith) (omega arith) (row-le b (f_parts a.1 rnil) (end_of b (p + 3)) (end_of b p) a.2.parts) h f, (a.0, a.2.body))
 
-pub path-rest : (b s s₁ : List ℕ) (k p o w : ℕ) (st st₁ st₂ d d₁ : List ℕ) (r : ℕ) → get_or b p 0 ≡ 0xAE → Ready b s k (p + 1) (end_of b p) st → Stands b p → w ≤ 2097152 → st₁ ≡ set st 1 (start_of o (off st) w)
+pub path-rest : (b s s₁ : List ℕ) (k p o w : ℕ) (st st₁ st₂ : State) (d d₁ : List ℕ) (r : ℕ) → get_or b p 0 ≡ 0xAE → Ready b s k (p + 1) (end_of b p) st → Stands b p → w ≤ 2097152 → st₁ ≡ with_off st (start_of o (off st) w)
     → Laid b (p + 3) s s₁ k st₁ st₂ d d₁ 0 r → Ready b s₁ k (end_of b (p + 3)) (end_of b p) st₂ × (end_of b p ≤ length b) × PartsHere b (end_of b (p + 3)) (end_of b p)
 path-rest b s s₁ k p o w st st₁ st₂ d d₁ r e y g h f m =
     let a = path-shape b p e g in
@@ -336,8 +339,8 @@ path-rest b s s₁ k p o w st st₁ st₂ d d₁ r e y g h f m =
     (ready-after b s s₁ k (p + 3) (p + 3 + 1) (end_of b (p + 3)) (end_of b p) st₁ st₂ v (omega arith) (omega arith) l m.paid, a.2.fits, (a.1, a.2.parts))
 
 -- its record's room: what is asked of where the own record is put
-pub path-put : (b s s₁ s₂ : List ℕ) (k p o w x i : ℕ) (st st₁ st₂ st₃ d d₁ d₂ : List ℕ) (r : ℕ) → get_or b p 0 ≡ 0xAE → Ready b s k (p + 1) (end_of b p) st → Stands b p → Placed o st
-    → st₁ ≡ set st 1 (start_of o (off st) w) → Laid b (p + 3) s s₁ k st₁ st₂ d d₁ 0 r → Parted b (end_of b (p + 3)) (end_of b p) s₁ s₂ k st₂ st₃ d₁ d₂ i
+pub path-put : (b s s₁ s₂ : List ℕ) (k p o w x i : ℕ) (st st₁ st₂ st₃ : State) (d d₁ d₂ : List ℕ) (r : ℕ) → get_or b p 0 ≡ 0xAE → Ready b s k (p + 1) (end_of b p) st → Stands b p → Placed o st
+    → st₁ ≡ with_off st (start_of o (off st) w) → Laid b (p + 3) s s₁ k st₁ st₂ d d₁ 0 r → Parted b (end_of b (p + 3)) (end_of b p) s₁ s₂ k st₂ st₃ d₁ d₂ i
     → ((xs : Parts) → Row b (f_parts xs rnil) (end_of b (p + 3)) (end_of b p) → w ≡ 7 + parts_width xs) → w ≤ 2097152 → x ≡ spot_of o (off st₃)
     → PathReady b s₂ (end_of b (p + 3)) (end_of b p) k i x w
 path-put b s s₁ s₂ k p o w x i st st₁ st₂ st₃ d d₁ d₂ r e y g pl f m c wide few x₀ =
@@ -345,7 +348,7 @@ path-put b s s₁ s₂ k p o w x i st st₁ st₂ st₃ d d₁ d₂ r e y g pl f
     let v = keeps b s s₁ k (p + 3 + 1) (end_of b (p + 3)) st₁ st₂ m.paid y.view y.seen in
     let q = c.is y.view v.0 a.1 a.2.parts in
     let t : off st ≤ 68719476736 = omega (arith, y.offs) in
-    let u : off st₃ ≤ late = omega (arith, t, few, off-off st st₁ (start_of o (off st) w) y.three f, start-high o (off st) w, m.paid.offs, c.paid.offs, a.2.fits, y.small) in
+    let u : off st₃ ≤ late = omega (arith, t, few, off-off st st₁ (start_of o (off st) w) f, start-high o (off st) w, m.paid.offs, c.paid.offs, a.2.fits, y.small) in
     record {
       xs = a.1;
       at = a.2.parts;
@@ -356,12 +359,12 @@ path-put b s s₁ s₂ k p o w x i st st₁ st₂ st₃ d d₁ d₂ r e y g pl f
       room = omega (arith, few, x₀, spot-within o (off st₃) late (placed-within o (off st) pl (omega (arith, t))) u);
     }
 
-pub path-did : (b : List ℕ) (p : ℕ) (s s₁ s₂ : List ℕ) (k o a w x i r : ℕ) (st st₁ st₂ st₃ st₄ d d₁ d₂ d₃ : List ℕ) → get_or b p 0 ≡ 0xAE → Ready b s k (p + 1) (end_of b p) st → Stands b p
+pub path-did : (b : List ℕ) (p : ℕ) (s s₁ s₂ : List ℕ) (k o a w x i r : ℕ) (st st₁ st₂ st₃ st₄ : State) (d d₁ d₂ d₃ : List ℕ) → get_or b p 0 ≡ 0xAE → Ready b s k (p + 1) (end_of b p) st → Stands b p
     → ((xs : Parts) → Row b (f_parts xs rnil) (end_of b (p + 3)) (end_of b p) → w ≡ 7 + parts_width xs)
-    → st₁ ≡ set st 1 (start_of o (off st) w) → a ≡ num st₁
+    → st₁ ≡ with_off st (start_of o (off st) w) → a ≡ num st₁
     → Laid b (p + 3) s s₁ k st₁ st₂ d d₁ 0 r
     → Parted b (end_of b (p + 3)) (end_of b p) s₁ s₂ k st₂ st₃ d₁ d₂ i
-    → x ≡ spot_of o (off st₃) → st₄ ≡ set st₃ 1 (next_of o (off st₃) w)
+    → x ≡ spot_of o (off st₃) → st₄ ≡ with_off st₃ (next_of o (off st₃) w)
     → ((xs : Parts) → Row b (f_parts xs rnil) (end_of b (p + 3)) (end_of b p) → i ≡ k + length (steps_at s₂ xs k) → w ≡ 7 + parts_width xs → d₃ ≡ overlay d₂ x (node_bytes 2 (n_path a (steps_at s₂ xs k))))
     → (al : ℕ) → Did b p s s₂ k o st st₄ d d₃ al 0
 unfolding term
@@ -390,7 +393,7 @@ path-did b p s s₁ s₂ k o a w x i r st st₁ st₂ st₃ st₄ d d₁ d₂ d�
         let J : d₃ ≡ overlay d₂ x (node_bytes 2 (n_path (num st) Y.made)) =
         j ps n.parts (Q.2 ∙ ap (λ (ss : List Step). k + length ss) (sym Q.1)) W ∙ ap₂ (λ (c : ℕ) (ss : List Step). overlay d₂ x (node_bytes 2 (n_path c ss))) (a₁ ∙ n₁) Q.1 in
         made-node b p (n_path (num st) Y.made) (slot A ++ Y.more) (A.errs ++ Y.errs) empty o w st st₄ d d₃
-        (own-two p (n_path (num st) Y.made) empty (slot A) Y.more A.errs Y.errs o w x st st₁ st₂ st₃ st₄ d d₁ d₂ d₃ y.three L f P Q.0 x₀ h J)
+        (own-two p (n_path (num st) Y.made) empty (slot A) Y.more A.errs Y.errs o w x st st₁ st₂ st₃ st₄ d d₁ d₂ d₃ L f P Q.0 x₀ h J)
         L
         (omega (arith, W, m.paid.offs, c.wide ps n.parts, P.offs, Q.0.offs, length-append (table_bytes 2 (slot A)) (table_bytes 2 Y.more), ap length (table-append (slot A) Y.more)))
 
@@ -408,8 +411,8 @@ path-ends b p q z q₀ z₀ e g =
     let h = row-le b (f_parts a.1 rnil) (end_of b (p + 3)) (end_of b p) a.2.parts in
     (omega (arith, h, a.2.fits), omega (arith, q₀), omega (arith, q₀, z₀, h), omega (arith, z₀, a.2.fits))
 
-pub path-rest-at : (b s s₁ : List ℕ) (k p q z o w : ℕ) (st st₁ st₂ d d₁ : List ℕ) (r : ℕ) → q ≡ end_of b (p + 3) → z ≡ end_of b p → get_or b p 0 ≡ 0xAE → Ready b s k (p + 1) (end_of b p) st → Stands b p → w ≤ 2097152
-    → st₁ ≡ set st 1 (start_of o (off st) w) → Laid b (p + 3) s s₁ k st₁ st₂ d d₁ 0 r → Ready b s₁ k q z st₂ × PartsHere b q z
+pub path-rest-at : (b s s₁ : List ℕ) (k p q z o w : ℕ) (st st₁ st₂ : State) (d d₁ : List ℕ) (r : ℕ) → q ≡ end_of b (p + 3) → z ≡ end_of b p → get_or b p 0 ≡ 0xAE → Ready b s k (p + 1) (end_of b p) st → Stands b p → w ≤ 2097152
+    → st₁ ≡ with_off st (start_of o (off st) w) → Laid b (p + 3) s s₁ k st₁ st₂ d d₁ 0 r → Ready b s₁ k q z st₂ × PartsHere b q z
 path-rest-at b s s₁ k p q z o w st st₁ st₂ d d₁ r q₀ z₀ e y g h f m =
     let a = path-rest b s s₁ k p o w st st₁ st₂ d d₁ r e y g h f m in
     subst (λ (q : ℕ). Ready b s₁ k q z st₂ × PartsHere b q z) (sym q₀) (subst (λ (z : ℕ). Ready b s₁ k (end_of b (p + 3)) z st₂ × PartsHere b (end_of b (p + 3)) z) (sym z₀) (a.0, a.2))
@@ -418,9 +421,9 @@ path-rest-at b s s₁ k p q z o w st st₁ st₂ d d₁ r q₀ z₀ e y g h f m 
 abbrev pub PartsWide : List ℕ → ℕ → ℕ → ℕ → Type 0
 PartsWide b q z u = (xs : Parts) → Row b (f_parts xs rnil) q z → u ≡ parts_width xs
 
-pub path-put-at : (b s s₁ s₂ : List ℕ) (k p q z o u x i : ℕ) (st st₁ st₂ st₃ d d₁ d₂ : List ℕ) (r : ℕ) → q ≡ end_of b (p + 3) → z ≡ end_of b p → get_or b p 0 ≡ 0xAE → Ready b s k (p + 1) (end_of b p) st → Stands b p → Placed o st
+pub path-put-at : (b s s₁ s₂ : List ℕ) (k p q z o u x i : ℕ) (st st₁ st₂ st₃ : State) (d d₁ d₂ : List ℕ) (r : ℕ) → q ≡ end_of b (p + 3) → z ≡ end_of b p → get_or b p 0 ≡ 0xAE → Ready b s k (p + 1) (end_of b p) st → Stands b p → Placed o st
     → PartsWide b q z u → 7 + u ≤ 2097152
-    → st₁ ≡ set st 1 (start_of o (off st) (7 + u)) → Laid b (p + 3) s s₁ k st₁ st₂ d d₁ 0 r → Parted b q z s₁ s₂ k st₂ st₃ d₁ d₂ i → x ≡ spot_of o (off st₃)
+    → st₁ ≡ with_off st (start_of o (off st) (7 + u)) → Laid b (p + 3) s s₁ k st₁ st₂ d d₁ 0 r → Parted b q z s₁ s₂ k st₂ st₃ d₁ d₂ i → x ≡ spot_of o (off st₃)
     → PathReady b s₂ q z k i x (7 + u)
 path-put-at b s s₁ s₂ k p q z o u x i st st₁ st₂ st₃ d d₁ d₂ r q₀ z₀ e y g pl wide few f m c x₀ =
     subst (λ (q : ℕ). PartsWide b q z u → Parted b q z s₁ s₂ k st₂ st₃ d₁ d₂ i → PathReady b s₂ q z k i x (7 + u)) (sym q₀)
@@ -428,16 +431,16 @@ path-put-at b s s₁ s₂ k p q z o u x i st st₁ st₂ st₃ d d₁ d₂ r q�
     (λ w c. path-put b s s₁ s₂ k p o (7 + u) x i st st₁ st₂ st₃ d d₁ d₂ r e y g pl f m c (λ xs h. ap (λ (n : ℕ). 7 + n) (w xs h)) few x₀)) wide c
 
 -- no addition wraps
-pub path-rooms : (b s s₁ s₂ : List ℕ) (k p q z o u i : ℕ) (st st₁ st₂ st₃ d d₁ d₂ : List ℕ) (r : ℕ) → q ≡ end_of b (p + 3) → z ≡ end_of b p → get_or b p 0 ≡ 0xAE → Ready b s k (p + 1) (end_of b p) st → Stands b p
-    → u + 2 * q ≤ 2 * z → st₁ ≡ set st 1 (start_of o (off st) (7 + u)) → Laid b (p + 3) s s₁ k st₁ st₂ d d₁ 0 r → Parted b q z s₁ s₂ k st₂ st₃ d₁ d₂ i → off st₃ + (7 + u) < 2 ^ 64
+pub path-rooms : (b s s₁ s₂ : List ℕ) (k p q z o u i : ℕ) (st st₁ st₂ st₃ : State) (d d₁ d₂ : List ℕ) (r : ℕ) → q ≡ end_of b (p + 3) → z ≡ end_of b p → get_or b p 0 ≡ 0xAE → Ready b s k (p + 1) (end_of b p) st → Stands b p
+    → u + 2 * q ≤ 2 * z → st₁ ≡ with_off st (start_of o (off st) (7 + u)) → Laid b (p + 3) s s₁ k st₁ st₂ d d₁ 0 r → Parted b q z s₁ s₂ k st₂ st₃ d₁ d₂ i → off st₃ + (7 + u) < 2 ^ 64
 path-rooms b s s₁ s₂ k p q z o u i st st₁ st₂ st₃ d d₁ d₂ r q₀ z₀ e y g few f m c =
     let h = path-ends b p q z q₀ z₀ e g in
-    omega (arith, h.1, h.2, h.3, few, y.offs, y.small, (reserved o (7 + u) st st₁ y.three f).2, m.paid.offs, c.paid.offs, q₀)
+    omega (arith, h.1, h.2, h.3, few, y.offs, y.small, (reserved o (7 + u) st st₁ f).1, m.paid.offs, c.paid.offs, q₀)
 
-pub path-done : (b : List ℕ) (p : ℕ) (s s₁ s₂ : List ℕ) (k q z o a u x i r : ℕ) (st st₁ st₂ st₃ st₄ d d₁ d₂ d₃ : List ℕ) → q ≡ end_of b (p + 3) → z ≡ end_of b p → get_or b p 0 ≡ 0xAE → Ready b s k (p + 1) (end_of b p) st → Stands b p
-    → PartsWide b q z u → st₁ ≡ set st 1 (start_of o (off st) (7 + u)) → a ≡ num st₁
+pub path-done : (b : List ℕ) (p : ℕ) (s s₁ s₂ : List ℕ) (k q z o a u x i r : ℕ) (st st₁ st₂ st₃ st₄ : State) (d d₁ d₂ d₃ : List ℕ) → q ≡ end_of b (p + 3) → z ≡ end_of b p → get_or b p 0 ≡ 0xAE → Ready b s k (p + 1) (end_of b p) st → Stands b p
+    → PartsWide b q z u → st₁ ≡ with_off st (start_of o (off st) (7 + u)) → a ≡ num st₁
     → Laid b (p + 3) s s₁ k st₁ st₂ d d₁ 0 r → Parted b q z s₁ s₂ k st₂ st₃ d₁ d₂ i
-    → x ≡ spot_of o (off st₃) → st₄ ≡ set st₃ 1 (next_of o (off st₃) (7 + u))
+    → x ≡ spot_of o (off st₃) → st₄ ≡ with_off st₃ (next_of o (off st₃) (7 + u))
     → ((xs : Parts) → Row b (f_parts xs rnil) q z → i ≡ k + length (steps_at s₂ xs k) → 7 + u ≡ 7 + parts_width xs → d₃ ≡ overlay d₂ x (node_bytes 2 (n_path a (steps_at s₂ xs k))))
     → (al : ℕ) → Did b p s s₂ k o st st₄ d d₃ al 0
 path-done b p s s₁ s₂ k q z o a u x i r st st₁ st₂ st₃ st₄ d d₁ d₂ d₃ q₀ z₀ e y g wide f a₁ m c x₀ h j al =

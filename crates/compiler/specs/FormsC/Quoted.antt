@@ -1,5 +1,5 @@
 -- Strings: the format, a string that is one text, and the sum of the parts. Assumes nothing.
-use Rattle.std.specs.Prelude.{ℕ, ◌+◌, ◌-◌, ◌*◌, ◌^◌, ◌≤◌, ◌<◌, ◌≡◌, refl, Bool, true, false, cond, ◌&&◌, List, [], ◌∷◌, ◌++◌, eqb, length, get_or, set, take, drop}
+use Rattle.std.specs.Prelude.{ℕ, ◌+◌, ◌-◌, ◌*◌, ◌^◌, ◌≤◌, ◌<◌, ◌≡◌, refl, Bool, true, false, cond, ◌&&◌, List, [], ◌∷◌, ◌++◌, eqb, length, get_or, take, drop}
 use Rattle.std.proofs.Common.{arith, sym, ap, ap₂, subst, ◌∙◌, append_assoc, length-append, eqb-true}
 use Rattle.std.proofs.lemmas.List.{length-map}
 use Rattle.reads.specs.Texts.{text-slice}
@@ -18,7 +18,8 @@ use Rattle.reads.specs.Bytes.{TermAt, name_at, is_tag, past}
 use Rattle.reads.specs.Widths.{strings_width, is_plain}
 use Rattle.reads.specs.Lengths.{own-str}
 use Rattle.reads.specs.Shapes.{StrAt, on-str, on-format, on-no-format, on-strings-cons, on-strings-nil, on-text-part, text-length, tag-yes, tag-no}
-use Rattle.puts.specs.State.{num, off, ers, start_of, spot_of, next_of, Put, Own}
+use Rattle.puts.specs.declared.state.State.{State}
+use Rattle.puts.specs.State.{num, off, ers, start_of, spot_of, next_of, Put, Own, with_num, with_off}
 use Rattle.puts.specs.Rooms.{put_then, put_one, own-one, table-append, start-high, placed-within}
 use Rattle.cells.specs.Cells.{View, Seen, env_of}
 use Rattle.cells.specs.Notes.{strings_of, held, held_errs, string_nodes, summed}
@@ -26,7 +27,7 @@ use Rattle.cells.specs.Flat.{nodes_of}
 use Rattle.records.specs.Sums.{Summands, string-summands, SumReady, SumPut}
 use Rattle.compiler.specs.Post.{Ready, Stands, Placed, Did, Strung}
 use Rattle.compiler.specs.Pieces.{FormatIs, plain_out}
-use Rattle.compiler.specs.Common.{off-num, off-ers, off-off, off-len, Made, did_of, bare-long}
+use Rattle.compiler.specs.Common.{off-num, off-ers, off-off, Made, did_of, bare-long}
 use Rattle.compiler.specs.FormsC.Paths.{past-low, row_on}
 use Rattle.compiler.specs.FormsC.Sums.{strings-flat, summed-size, summed-count, sum-state, sum-own}
 use Rattle.compiler.specs.FormsC.Strings.{StringsHere}
@@ -68,7 +69,7 @@ format-fits b p q g l =
 pub format-long : (b : List ℕ) (p q : ℕ) → FormatHere b p q → p < q → length b ≤ 32768 → length (take (q - (p + 3)) (drop (p + 3) b)) < 65536
 format-long b p q g l h = let f = format-fits b p q g l in omega (arith, h, f.1, ap length (text-slice b p q f.0), text-length b p f.1)
 
-pub format-call : (b : List ℕ) (p q at : ℕ) (x s st st₁ d d₁ : List ℕ) → p < q → x ≡ text_of b p → at ≡ p + 3
+pub format-call : (b : List ℕ) (p q at : ℕ) (x s : List ℕ) (st st₁ : State) (d d₁ : List ℕ) → p < q → x ≡ text_of b p → at ≡ p + 3
     → ((vw : View) (k i : ℕ) → Seen vw b s k → let a = called vw.top i x at 0 (bare []) (env_of vw b s k) empty in Put (slot a) a.errs st st₁ d d₁)
     → num st₁ ≡ num st + 1 → off st₁ ≤ off st + 10 → ers st₁ ≤ ers st + 11
     → FormatIs b p q s st st₁ d d₁
@@ -86,10 +87,10 @@ format-call b p q at x s st st₁ d d₁ l x₀ at₀ f n o e =
       errs = e;
     }
 
-pub format-bare : (b : List ℕ) (p q x : ℕ) (s st st₁ d d₁ : List ℕ) → q ≤ p → length st ≡ 3 → x ≡ off st → st₁ ≡ set (set st 0 (num st + 1)) 1 (off st + 3) → d₁ ≡ overlay d x (field 0x52 [])
+pub format-bare : (b : List ℕ) (p q x : ℕ) (s : List ℕ) (st st₁ : State) (d d₁ : List ℕ) → q ≤ p → x ≡ off st → st₁ ≡ with_off (with_num st (num st + 1)) (off st + 3) → d₁ ≡ overlay d x (field 0x52 [])
     → FormatIs b p q s st st₁ d d₁
 unfolding format_out
-format-bare b p q x s st st₁ d d₁ l t x₀ e j =
+format-bare b p q x s st st₁ d d₁ l x₀ e j =
     record {
       is = λ vw k v F xs z i q₀ h. on-no-format b p z (λ (F : Format). let a = format_out vw.top F i (env_of vw b s k) in Put (slot a) a.errs st st₁ d d₁) xs (tag-no b p z 0xBA (past-none b p z 0xBA q q₀ l)) (λ w. put i) F h;
       nums = (put 0).nums;
@@ -98,21 +99,21 @@ format-bare b p q x s st st₁ d d₁ l t x₀ e j =
     }
   where
     put : (i : ℕ) → Put (record { place = i; node = n_to_string } ∷ []) [] st st₁ d d₁
-    put i = put_one (record { place = i; node = n_to_string }) 3 x st st₁ d d₁ t (bare-long 0x52) x₀ e j
+    put i = put_one (record { place = i; node = n_to_string }) 3 x st st₁ d d₁ (bare-long 0x52) x₀ e j
 
     three : length (table_bytes 2 (record { place = 0; node = n_to_string } ∷ [])) ≡ 3
     three = length-append (field 0x52 []) [] ∙ ap (λ (n : ℕ). n + 0) (sym (bare-long 0x52))
 
 -- ---- one text
 
-pub plain-is : (b : List ℕ) (q z o w x y : ℕ) (u st st₁ st₂ st₃ d d₁ d₂ : List ℕ) → length st ≡ 3 → end_of b q ≡ z → z ≤ length b → w ≡ z - q
-    → st₁ ≡ set st 1 (start_of o (off st) w) → x ≡ off st₁ → st₂ ≡ set (set st₁ 0 (num st₁ + 1)) 1 (off st₁ + 3) → d₁ ≡ overlay d x (field 0x52 [])
-    → y ≡ spot_of o (off st₂) → st₃ ≡ set st₂ 1 (next_of o (off st₂) w) → u ≡ text_of b q → d₂ ≡ overlay d₁ y (field 0x55 u)
+pub plain-is : (b : List ℕ) (q z o w x y : ℕ) (u : List ℕ) (st st₁ st₂ st₃ : State) (d d₁ d₂ : List ℕ) → end_of b q ≡ z → z ≤ length b → w ≡ z - q
+    → st₁ ≡ with_off st (start_of o (off st) w) → x ≡ off st₁ → st₂ ≡ with_off (with_num st₁ (num st₁ + 1)) (off st₁ + 3) → d₁ ≡ overlay d x (field 0x52 [])
+    → y ≡ spot_of o (off st₂) → st₃ ≡ with_off st₂ (next_of o (off st₂) w) → u ≡ text_of b q → d₂ ≡ overlay d₁ y (field 0x55 u)
     → (at : ℕ) → Own (plain_out at (text_of b q)) o st st₃ d d₂
-plain-is b q z o w x y u st st₁ st₂ st₃ d d₁ d₂ t z₀ h w₀ e x₀ f i y₀ g u₀ j at =
-    own-one at (n_str (text_of b q)) empty (record { place = at; node = n_to_string } ∷ []) [] o w y st st₁ st₂ st₃ d d₁ d₂ t
+plain-is b q z o w x y u st st₁ st₂ st₃ d d₁ d₂ z₀ h w₀ e x₀ f i y₀ g u₀ j at =
+    own-one at (n_str (text_of b q)) empty (record { place = at; node = n_to_string } ∷ []) [] o w y st st₁ st₂ st₃ d d₁ d₂
     (omega (arith, w₀, z₀, h, text-length b q (omega (arith, z₀, h)), length-field 0x55 (text_of b q))) e
-    (put_one (record { place = at; node = n_to_string }) 3 x st₁ st₂ d d₁ (off-len st st₁ (start_of o (off st) w) e ∙ t) (bare-long 0x52) x₀ f i)
+    (put_one (record { place = at; node = n_to_string }) 3 x st₁ st₂ d d₁ (bare-long 0x52) x₀ f i)
     y₀ g (j ∙ ap (λ (v : List ℕ). overlay d₁ y (field 0x55 v)) u₀)
 
 pub plain-yes : (b : List ℕ) (q z : ℕ) → is_plain b q z ≡ true → (q < z) × (get_or b q 0 ≡ 0xBB) × (end_of b q ≡ z)
@@ -150,7 +151,7 @@ on-plain b p P e i f = on-str b p P e (λ F xs n. format F xs n.fits n.parts)
     format : (F : Format) (xs : StrParts) → z ≤ length b → Row b (f_format F (f_str_parts xs rnil)) (p + 3) z → P (t_str p F xs)
     format F xs l h = on-no-format b (p + 3) z (λ (F : Format). P (t_str p F xs)) xs (λ g t. omega (arith, t, y.1)) (from_parts xs l) F h
 
-pub plain-did : (b : List ℕ) (p : ℕ) (s : List ℕ) (k o r : ℕ) (st st' d d' : List ℕ) → get_or b p 0 ≡ 0xAF → is_plain b (p + 3) (end_of b p) ≡ true → Ready b s k (p + 1) (end_of b p) st → Stands b p
+pub plain-did : (b : List ℕ) (p : ℕ) (s : List ℕ) (k o r : ℕ) (st st' : State) (d d' : List ℕ) → get_or b p 0 ≡ 0xAF → is_plain b (p + 3) (end_of b p) ≡ true → Ready b s k (p + 1) (end_of b p) st → Stands b p
     → ((at : ℕ) → Own (plain_out at (text_of b (p + 3))) o st st' d d') → r ≡ 0 → (al : ℕ) → Did b p s s k o st st' d d' al r
 unfolding term format_out sum_out
 plain-did b p s k o r st st' d d' e i y g m r₀ al =
@@ -182,13 +183,10 @@ str-past b p e g =
     let h = str-parts b p e g in
     (row-le b (f_str_parts h.0 rnil) (past b (p + 3) (end_of b p) 0xBA) (end_of b p) h.1, a.2.fits)
 
-module _ (b : List ℕ) (p : ℕ) (s : List ℕ) (k o w : ℕ) (st st₁ st₂ d d₁ : List ℕ) (e : get_or b p 0 ≡ 0xAF) (y : Ready b s k (p + 1) (end_of b p) st) (g : Stands b p)
-    (few : w ≤ 1048576) (f : st₁ ≡ set st 1 (start_of o (off st) w)) (fm : FormatIs b (p + 3) (past b (p + 3) (end_of b p) 0xBA) s st₁ st₂ d d₁) where
+module _ (b : List ℕ) (p : ℕ) (s : List ℕ) (k o w : ℕ) (st st₁ st₂ : State) (d d₁ : List ℕ) (e : get_or b p 0 ≡ 0xAF) (y : Ready b s k (p + 1) (end_of b p) st) (g : Stands b p)
+    (few : w ≤ 1048576) (f : st₁ ≡ with_off st (start_of o (off st) w)) (fm : FormatIs b (p + 3) (past b (p + 3) (end_of b p) 0xBA) s st₁ st₂ d d₁) where
   format-put : (vw : View) → Seen vw b s k → (F : Format) (xs : StrParts) → StrAt b p F xs → let a = format_out vw.top F p (env_of vw b s k) in Put (slot a) a.errs st₁ st₂ d d₁
   format-put vw v F xs n = fm.is vw k v F xs (end_of b p) p refl n.parts
-
-  format-three : length st₂ ≡ length st
-  format-three = let a = str-shape b p e g in (format-put y.view y.seen a.0 a.1 a.2).same ∙ off-len st st₁ (start_of o (off st) w) f
 
   pub str-ready : Ready b s k (past b (p + 3) (end_of b p) 0xBA) (end_of b p) st₂
   str-ready =
@@ -196,19 +194,18 @@ module _ (b : List ℕ) (p : ℕ) (s : List ℕ) (k o w : ℕ) (st st₁ st₂ d
       let h = (str-past b p e g).0 in
       record {
         small = y.small;
-        three = format-three ∙ y.three;
         view = y.view;
         seen = y.seen;
         order = h;
         within = y.within;
         spare = omega (arith, y.spare, l, h, y.within);
         nums = omega (arith, y.nums, l, h, fm.nums, off-num st st₁ (start_of o (off st) w) f);
-        offs = omega (arith, y.offs, l, h, fm.offs, few, off-off st st₁ (start_of o (off st) w) y.three f, start-high o (off st) w);
+        offs = omega (arith, y.offs, l, h, fm.offs, few, off-off st st₁ (start_of o (off st) w) f, start-high o (off st) w);
         errs = omega (arith, y.errs, l, h, fm.errs, off-ers st st₁ (start_of o (off st) w) f);
       }
 
-module _ (b : List ℕ) (p : ℕ) (s s₁ : List ℕ) (k o i w F : ℕ) (st st₁ st₂ st₃ d d₁ d₂ : List ℕ) (e : get_or b p 0 ≡ 0xAF) (y : Ready b s k (p + 1) (end_of b p) st) (g : Stands b p)
-    (few : w ≤ 1048576) (f : st₁ ≡ set st 1 (start_of o (off st) w)) (F₀ : F ≡ num st₁) (fm : FormatIs b (p + 3) (past b (p + 3) (end_of b p) 0xBA) s st₁ st₂ d d₁)
+module _ (b : List ℕ) (p : ℕ) (s s₁ : List ℕ) (k o i w F : ℕ) (st st₁ st₂ st₃ : State) (d d₁ d₂ : List ℕ) (e : get_or b p 0 ≡ 0xAF) (y : Ready b s k (p + 1) (end_of b p) st) (g : Stands b p)
+    (few : w ≤ 1048576) (f : st₁ ≡ with_off st (start_of o (off st) w)) (F₀ : F ≡ num st₁) (fm : FormatIs b (p + 3) (past b (p + 3) (end_of b p) 0xBA) s st₁ st₂ d d₁)
     (c : Strung b (past b (p + 3) (end_of b p) 0xBA) (end_of b p) s s₁ k st₂ st₃ d₁ d₂ i) where
   notes-are : (xs : StrParts) → Row b (f_str_parts xs rnil) (past b (p + 3) (end_of b p) 0xBA) (end_of b p) → (n : ℕ) → i ≡ k + length (string_nodes s₁ xs n k)
   notes-are xs h n =
@@ -228,12 +225,12 @@ module _ (b : List ℕ) (p : ℕ) (s s₁ : List ℕ) (k o i w F : ℕ) (st st�
           are = string-summands b s₁ h.0 F k (c.notes h.0 h.1);
           notes = n;
           rows = omega (arith, c.rows, y.spare, l, z, c.paid.same);
-          room = omega (arith, t, few, z, y.small, fm.offs, c.wide h.0 F h.1, off-off st st₁ (start_of o (off st) w) y.three f, start-high o (off st) w, placed-within o (off st) pl (omega (arith, t)));
+          room = omega (arith, t, few, z, y.small, fm.offs, c.wide h.0 F h.1, off-off st st₁ (start_of o (off st) w) f, start-high o (off st) w, placed-within o (off st) pl (omega (arith, t)));
         },
         omega (arith, y.nums, y.small, z, l, fm.nums, off-num st st₁ (start_of o (off st) w) f, c.paid.nums, c.rows),
       )
 
-  pub str-did : (wide : StrWide b p w) (st₄ d₃ : List ℕ)
+  pub str-did : (wide : StrWide b p w) (st₄ : State) (d₃ : List ℕ)
       → ((ts : List Node) (at : ℕ) (t : Node) → Summands b s₁ F k ts → i ≡ k + length ts → node_bytes 2 t ≡ field 0x55 [] → SumPut at t ts o w st₃ st₄ d₂ d₃)
       → (al : ℕ) → Did b p s s₁ k o st st₄ d d₃ al 0
   unfolding term
@@ -242,7 +239,7 @@ module _ (b : List ℕ) (p : ℕ) (s s₁ : List ℕ) (k o i w F : ℕ) (st st�
       let l = past-low b (p + 3) (end_of b p) 0xBA in
       let u = put h.1 (format-past b (p + 3) (end_of b p) h.0 h.1 h.2.parts) in
       let n = notes-are h.1 (format-past b (p + 3) (end_of b p) h.0 h.1 h.2.parts) (num st) in
-      let a = sum-state p (n_str []) (string_nodes s₁ h.1 (num st) k) o w st₃ st₄ d₂ d₃ (c.paid.three ∙ format-three b p s k o w st st₁ st₂ d d₁ e y g few f fm ∙ y.three) u in
+      let a = sum-state p (n_str []) (string_nodes s₁ h.1 (num st) k) o w st₃ st₄ d₂ d₃ u in
       did_of b p s s₁ k o st st₄ d d₃ al 0 y g
       (λ vw v. on-str b p (λ t. Made b p (term vw.top t (env_of vw b s k) (num st) al) o st st₄ d d₃ 0) e (is vw v))
       c.paid.kept c.paid.same
@@ -280,7 +277,7 @@ module _ (b : List ℕ) (p : ℕ) (s s₁ : List ℕ) (k o i w F : ℕ) (st st�
           let Z : Put (slot A ++ held os) Q.errs st₁ st₃ d d₂ =
           subst (λ (es : List Err). Put (slot A ++ held os) (A.errs ++ es) st₁ st₃ d d₂) (sym L.errs) (put_then (slot A) (held os) A.errs (held_errs os) st₁ st₂ st₃ d d₁ d₂ P S.0) in
           record {
-            own = sum-own Q (slot A ++ held os) p (n_str []) ns o w st st₁ st₃ st₄ d d₂ d₃ y.three W f Z U (ap (λ (us : List Rec). slot A ++ us) X ∙ sym (append_assoc (slot A) (held os) rs)) Y;
+            own = sum-own Q (slot A ++ held os) p (n_str []) ns o w st st₁ st₃ st₄ d d₂ d₃ W f Z U (ap (λ (us : List Rec). slot A ++ us) X ∙ sym (append_assoc (slot A) (held os) rs)) Y;
             tail = refl;
             wide =
                 omega (
@@ -314,28 +311,27 @@ str-here b p q z q₀ z₀ e g =
     (λ i. subst (λ (q : ℕ). (end_of b p ≤ length b) × StringsHere b q (end_of b p) × FormatHere b (p + 3) q × (p + 3 ≤ q) × (q ≤ end_of b p)) (sym i)
     ((str-past b p e g).1, str-parts b p e g, str-format b p e g, past-low b (p + 3) (end_of b p) 0xBA, (str-past b p e g).0)) q₀
 
-pub str-ready-at : (b : List ℕ) (p q z : ℕ) (s : List ℕ) (k o w : ℕ) (st st₁ st₂ d d₁ : List ℕ) → q ≡ past b (p + 3) z 0xBA → z ≡ end_of b p → get_or b p 0 ≡ 0xAF → Ready b s k (p + 1) (end_of b p) st → Stands b p
-    → w ≤ 1048576 → st₁ ≡ set st 1 (start_of o (off st) w) → FormatIs b (p + 3) q s st₁ st₂ d d₁ → Ready b s k q z st₂ × StringsHere b q z
+pub str-ready-at : (b : List ℕ) (p q z : ℕ) (s : List ℕ) (k o w : ℕ) (st st₁ st₂ : State) (d d₁ : List ℕ) → q ≡ past b (p + 3) z 0xBA → z ≡ end_of b p → get_or b p 0 ≡ 0xAF → Ready b s k (p + 1) (end_of b p) st → Stands b p
+    → w ≤ 1048576 → st₁ ≡ with_off st (start_of o (off st) w) → FormatIs b (p + 3) q s st₁ st₂ d d₁ → Ready b s k q z st₂ × StringsHere b q z
 str-ready-at b p q z s k o w st st₁ st₂ d d₁ q₀ z₀ e y g few f fm =
     subst (λ (z : ℕ). q ≡ past b (p + 3) z 0xBA → Ready b s k q z st₂ × StringsHere b q z) (sym z₀)
     (λ i. subst (λ (q : ℕ). FormatIs b (p + 3) q s st₁ st₂ d d₁ → Ready b s k q (end_of b p) st₂ × StringsHere b q (end_of b p)) (sym i)
     (λ fm. (str-ready b p s k o w st st₁ st₂ d d₁ e y g few f fm, str-parts b p e g)) fm) q₀
 
-module _ (b : List ℕ) (p q z : ℕ) (s s₁ : List ℕ) (k o i w F : ℕ) (st st₁ st₂ st₃ d d₁ d₂ : List ℕ) (q₀ : q ≡ past b (p + 3) z 0xBA) (z₀ : z ≡ end_of b p) (e : get_or b p 0 ≡ 0xAF) (y : Ready b s k (p + 1) (end_of b p) st)
-    (g : Stands b p) (few : w ≤ 1048576) (f : st₁ ≡ set st 1 (start_of o (off st) w)) (F₀ : F ≡ num st₁) (fm : FormatIs b (p + 3) q s st₁ st₂ d d₁) (c : Strung b q z s s₁ k st₂ st₃ d₁ d₂ i) where
+module _ (b : List ℕ) (p q z : ℕ) (s s₁ : List ℕ) (k o i w F : ℕ) (st st₁ st₂ st₃ : State) (d d₁ d₂ : List ℕ) (q₀ : q ≡ past b (p + 3) z 0xBA) (z₀ : z ≡ end_of b p) (e : get_or b p 0 ≡ 0xAF) (y : Ready b s k (p + 1) (end_of b p) st)
+    (g : Stands b p) (few : w ≤ 1048576) (f : st₁ ≡ with_off st (start_of o (off st) w)) (F₀ : F ≡ num st₁) (fm : FormatIs b (p + 3) q s st₁ st₂ d d₁) (c : Strung b q z s s₁ k st₂ st₃ d₁ d₂ i) where
   whole : (P : Type 0) → (FormatIs b (p + 3) (past b (p + 3) (end_of b p) 0xBA) s st₁ st₂ d d₁ → Strung b (past b (p + 3) (end_of b p) 0xBA) (end_of b p) s s₁ k st₂ st₃ d₁ d₂ i → P) → P
   whole P h =
       let i₀ : q ≡ past b (p + 3) (end_of b p) 0xBA = q₀ ∙ ap (λ (z : ℕ). past b (p + 3) z 0xBA) z₀ in
       h (subst (λ (q : ℕ). FormatIs b (p + 3) q s st₁ st₂ d d₁) i₀ fm) (subst (λ (q : ℕ). Strung b q (end_of b p) s s₁ k st₂ st₃ d₁ d₂ i) i₀ (subst (λ (z : ℕ). Strung b q z s s₁ k st₂ st₃ d₁ d₂ i) z₀ c))
 
-  pub str-summed : Placed o st → (length st₃ ≡ 3) × (k ≤ i) × SumReady b s₁ F k i (o + off st₃ + w + 3) × (num st₃ + 2 * (i - k) < 2 ^ 64)
+  pub str-summed : Placed o st → (k ≤ i) × SumReady b s₁ F k i (o + off st₃ + w + 3) × (num st₃ + 2 * (i - k) < 2 ^ 64)
   str-summed pl =
-      whole ((length st₃ ≡ 3) × (k ≤ i) × SumReady b s₁ F k i (o + off st₃ + w + 3) × (num st₃ + 2 * (i - k) < 2 ^ 64))
+      whole ((k ≤ i) × SumReady b s₁ F k i (o + off st₃ + w + 3) × (num st₃ + 2 * (i - k) < 2 ^ 64))
       (λ fm c.
-      let a = str-summands b p s s₁ k o i w F st st₁ st₂ st₃ d d₁ d₂ e y g few f F₀ fm c pl in
-      (c.paid.three ∙ (str-ready b p s k o w st st₁ st₂ d d₁ e y g few f fm).three, a.0, a.1, a.2))
+      str-summands b p s s₁ k o i w F st st₁ st₂ st₃ d d₁ d₂ e y g few f F₀ fm c pl)
 
-  pub str-done : ((xs : StrParts) → Row b (f_str_parts xs rnil) q z → w ≡ strings_width xs) → (st₄ d₃ : List ℕ)
+  pub str-done : ((xs : StrParts) → Row b (f_str_parts xs rnil) q z → w ≡ strings_width xs) → (st₄ : State) (d₃ : List ℕ)
       → ((ts : List Node) (at : ℕ) (t : Node) → Summands b s₁ F k ts → i ≡ k + length ts → node_bytes 2 t ≡ field 0x55 [] → SumPut at t ts o w st₃ st₄ d₂ d₃)
       → (al : ℕ) → Did b p s s₁ k o st st₄ d d₃ al 0
   str-done wide st₄ d₃ sum al =

@@ -17,6 +17,7 @@ use Rattle.reads.specs.Bytes.{name_at}
 use Rattle.reads.specs.Lengths.{pipe-length}
 use Rattle.reads.specs.Parts.{row_fits}
 use Rattle.reads.specs.Shapes.{StrPartAt, LeafAt, on-text-part, on-char-part, on-term-part, on-strings-cons, on-strings-nil, text-length}
+use Rattle.puts.specs.declared.state.State.{State}
 use Rattle.puts.specs.State.{num, off, Put}
 use Rattle.puts.specs.Rooms.{put-none, put_then}
 use Rattle.puts.specs.Runs.{utf8-few}
@@ -42,7 +43,7 @@ pub string-stands : (b : List ℕ) (q : ℕ) → (get_or b q 0 ≡ 0xBB → ⊥)
 string-stands b q n m g = on-term-part b q (λ _. Stands b q) n m (λ t h. (t, h)) g.0 g.1
 
 -- a text or a character contains nothing
-pub string-text : (b : List ℕ) (q : ℕ) (s : List ℕ) (k : ℕ) (st d : List ℕ) → (get_or b q 0 ≡ 0xBB) ⊎ (get_or b q 0 ≡ 0xBC) → StringIs b q s s k st st d d
+pub string-text : (b : List ℕ) (q : ℕ) (s : List ℕ) (k : ℕ) (st : State) (d : List ℕ) → (get_or b q 0 ≡ 0xBB) ⊎ (get_or b q 0 ≡ 0xBC) → StringIs b q s s k st st d d
 unfolding term string_node
 string-text b q s k st d e =
     record {
@@ -51,7 +52,7 @@ string-text b q s k st d e =
           one (λ (x : StrPart). off st + (8 + length (node_bytes 2 (string_node x f n))) + 64 * q ≤ off st + 64 * end_of b q) e
           (λ l. omega (arith, length-field 0x55 (text_of b q), text-length b q l.fits))
           (λ l. omega (arith, length-field 0x55 (utf8 (value (text_of b q))), utf8-few (value (text_of b q)))) x h;
-      paid = record { kept = refl; same = refl; three = refl; nums = omega arith; offs = omega arith; errs = omega arith };
+      paid = record { kept = refl; same = refl; nums = omega arith; offs = omega arith; errs = omega arith };
     }
   where
     one : (P : StrPart → Type 0) → (get_or b q 0 ≡ 0xBB) ⊎ (get_or b q 0 ≡ 0xBC) → (LeafAt b 0xBB q → P (s_text (name_at b q))) → (LeafAt b 0xBC q → P (s_char (record { place = q; bytes = text_of b q })))
@@ -59,7 +60,7 @@ string-text b q s k st d e =
     one P (inl i) f g x h = on-text-part b q P i f x h
     one P (inr i) f g x h = on-char-part b q P i g x h
 
-pub string-term : (b : List ℕ) (q : ℕ) (s s' : List ℕ) (k : ℕ) (st st' d d' : List ℕ) (r : ℕ) → (get_or b q 0 ≡ 0xBB → ⊥) → (get_or b q 0 ≡ 0xBC → ⊥) → Laid b q s s' k st st' d d' 0 r
+pub string-term : (b : List ℕ) (q : ℕ) (s s' : List ℕ) (k : ℕ) (st st' : State) (d d' : List ℕ) (r : ℕ) → (get_or b q 0 ≡ 0xBB → ⊥) → (get_or b q 0 ≡ 0xBC → ⊥) → Laid b q s s' k st st' d d' 0 r
     → StringIs b q s s' k st st' d d'
 unfolding term string_node opt_pat_bytes
 string-term b q s s' k st st' d d' r n m a =
@@ -79,12 +80,12 @@ pub strings-head : (b : List ℕ) (p z : ℕ) → p < z → StringsHere b p z �
 strings-head b p z l g = on-strings-cons b p z (λ _. StringHere b p × StringsHere b (end_of b p) z) l (λ x xs h i j. ((x, h), (xs, j))) g.0 g.1
 
 -- of what the parts contain, and of their notes
-abbrev StrungAs : List ℕ → List ℕ → ℕ → List ℕ → List ℕ → List ℕ → List ℕ → List ℕ → ℕ → View → StrParts → ℕ → ℕ → Type 0
+abbrev StrungAs : List ℕ → List ℕ → ℕ → List ℕ → State → State → List ℕ → List ℕ → ℕ → View → StrParts → ℕ → ℕ → Type 0
 StrungAs b s k s' st st' d d' r vw xs p f =
     let os = strings_of vw.top xs p f (env_of vw b s k) (num st) in
     Put (held os) (held_errs os) st st' d d' × (string_nodes s' xs f k ≡ map (λ (o : Out). o.self.node) os) × (r ≡ k + length os)
 
-pub strings-nil : (b : List ℕ) (p z : ℕ) (s : List ℕ) (k : ℕ) (st d : List ℕ) → z ≤ p → StringsHere b p z → Strung b p z s s k st st d d k
+pub strings-nil : (b : List ℕ) (p z : ℕ) (s : List ℕ) (k : ℕ) (st : State) (d : List ℕ) → z ≤ p → StringsHere b p z → Strung b p z s s k st st d d k
 unfolding strings_of held held_errs string_nodes sizes StringNotes
 strings-nil b p z s k st d l g =
     let e : p ≤ z = row-le b (f_str_parts g.0 rnil) p z g.1 in
@@ -93,10 +94,10 @@ strings-nil b p z s k st d l g =
       notes = on-strings-nil b p z (λ (xs : StrParts). StringNotes b s xs k) l tt;
       rows = omega (arith, e);
       wide = λ xs f. on-strings-nil b p z (λ (xs : StrParts). off st + sizes (string_nodes s xs f k) + 64 * p ≤ off st + 64 * z) l (omega (arith, e)) xs;
-      paid = record { kept = refl; same = refl; three = refl; nums = omega (arith, e); offs = omega (arith, e); errs = omega (arith, e) };
+      paid = record { kept = refl; same = refl; nums = omega (arith, e); offs = omega (arith, e); errs = omega (arith, e) };
     }
 
-pub strings-cons : (b : List ℕ) (p z : ℕ) (s s₁ s₂ s' : List ℕ) (k a : ℕ) (st st₁ st' d d₁ d' : List ℕ) (r : ℕ) → p < z → a ≡ num st → StringIs b p s s₁ k st st₁ d d₁ → Noting b s₁ s₂ k 7 a p
+pub strings-cons : (b : List ℕ) (p z : ℕ) (s s₁ s₂ s' : List ℕ) (k a : ℕ) (st st₁ st' : State) (d d₁ d' : List ℕ) (r : ℕ) → p < z → a ≡ num st → StringIs b p s s₁ k st st₁ d d₁ → Noting b s₁ s₂ k 7 a p
     → Strung b (end_of b p) z s₂ s' (k + 1) st₁ st' d₁ d' r → Strung b p z s s' k st st' d d' r
 unfolding strings_of held held_errs string_nodes sizes StringNotes
 strings-cons b p z s s₁ s₂ s' k a st st₁ st' d d₁ d' r l a₀ m n c =
@@ -110,7 +111,6 @@ strings-cons b p z s s₁ s₂ s' k a st st₁ st' d d₁ d' r l a₀ m n c =
       paid = record {
         kept = kept_less k (k + 1) s₂ s' (omega arith) c.paid.kept ∙ n.kept ∙ m.paid.kept;
         same = c.paid.same ∙ n.same ∙ m.paid.same;
-        three = c.paid.three ∙ m.paid.three;
         nums = omega (arith, m.paid.nums, c.paid.nums);
         offs = omega (arith, m.paid.offs, c.paid.offs);
         errs = omega (arith, m.paid.errs, c.paid.errs);
@@ -141,32 +141,35 @@ strings-cons b p z s s₁ s₂ s' k a st st₁ st' d d₁ d' r l a₀ m n c =
         )
 
 -- the loop over them: p is the next part's place, i its row
-pub record Stringing (b : List ℕ) (q z : ℕ) (s₀ : List ℕ) (k : ℕ) (st₀ d₀ : List ℕ) (p i : ℕ) (s st d : List ℕ) : Type 0 where
-  pub goes : (s' st' d' : List ℕ) (r : ℕ) → Strung b p z s s' i st st' d d' r → Strung b q z s₀ s' k st₀ st' d₀ d' r
+pub record Stringing (b : List ℕ) (q z : ℕ) (s₀ : List ℕ) (k : ℕ) (st₀ : State) (d₀ : List ℕ) (p i : ℕ) (s : List ℕ) (st : State) (d : List ℕ) : Type 0 where
+  pub goes : (s' : List ℕ) (st' : State) (d' : List ℕ) (r : ℕ) → Strung b p z s s' i st st' d d' r → Strung b q z s₀ s' k st₀ st' d₀ d' r
   pub low : q ≤ p
   pub ready : Ready b s i p z st
   pub here : StringsHere b p z
   pub same : length s ≡ length s₀
-  pub three : length st ≡ length st₀
   pub room : length d ≡ length d₀
 
-pub strings-start : (b : List ℕ) (q z : ℕ) (s : List ℕ) (k : ℕ) (st d : List ℕ) → Ready b s k q z st → StringsHere b q z → Stringing b q z s k st d q k s st d
-strings-start b q z s k st d y g = record { goes = λ s' st' d' r f. f; low = omega arith; ready = y; here = g; same = refl; three = refl; room = refl }
+-- p is where the next one stands
+pub strings-on : (b : List ℕ) (q z : ℕ) (s₀ : List ℕ) (k : ℕ) (st₀ : State) (d₀ : List ℕ) (n p i : ℕ) (s : List ℕ) (st : State) (d : List ℕ) → n ≡ p → Stringing b q z s₀ k st₀ d₀ n i s st d → Stringing b q z s₀ k st₀ d₀ p i s st d
+strings-on b q z s₀ k st₀ d₀ n p i s st d e g = subst (λ (r : ℕ). Stringing b q z s₀ k st₀ d₀ r i s st d) e g
+
+pub strings-start : (b : List ℕ) (q z : ℕ) (s : List ℕ) (k : ℕ) (st : State) (d : List ℕ) → Ready b s k q z st → StringsHere b q z → Stringing b q z s k st d q k s st d
+strings-start b q z s k st d y g = record { goes = λ s' st' d' r f. f; low = omega arith; ready = y; here = g; same = refl; room = refl }
 
 -- the note of the part at p
-pub string-noted : (b s s₁ s₂ : List ℕ) (k p a : ℕ) (st st₁ d d₁ : List ℕ) → Ready b s k p (end_of b p) st → StringHere b p → a ≡ num st → StringIs b p s s₁ k st st₁ d d₁ → s₂ ≡ noted s₁ k 7 a p → Noting b s₁ s₂ k 7 a p
+pub string-noted : (b s s₁ s₂ : List ℕ) (k p a : ℕ) (st st₁ : State) (d d₁ : List ℕ) → Ready b s k p (end_of b p) st → StringHere b p → a ≡ num st → StringIs b p s s₁ k st st₁ d d₁ → s₂ ≡ noted s₁ k 7 a p → Noting b s₁ s₂ k 7 a p
 string-noted b s s₁ s₂ k p a st st₁ d d₁ y g a₀ m f =
     noting b s₁ s₂ k 7 a p (omega (arith, note-room b s k p (end_of b p) st y (omega arith), m.paid.same))
     (omega (arith, a₀, note-few b s k p (end_of b p) st y (omega arith))) (omega arith) (omega arith) f
 
 -- the part at p is ready
-pub strings-next : (b : List ℕ) (q z : ℕ) (s₀ : List ℕ) (k : ℕ) (st₀ d₀ : List ℕ) (p i : ℕ) (s st d : List ℕ) → Stringing b q z s₀ k st₀ d₀ p i s st d → p < z
+pub strings-next : (b : List ℕ) (q z : ℕ) (s₀ : List ℕ) (k : ℕ) (st₀ : State) (d₀ : List ℕ) (p i : ℕ) (s : List ℕ) (st : State) (d : List ℕ) → Stringing b q z s₀ k st₀ d₀ p i s st d → p < z
     → Ready b s i p (end_of b p) st × StringHere b p
 strings-next b q z s₀ k st₀ d₀ p i s st d v l =
     let h = strings-head b p z l v.here in
     (ready-part b s i p p z (end_of b p) st v.ready (omega arith) (omega arith) (row-le b (f_str_parts h.1.0 rnil) (end_of b p) z h.1.1), h.0)
 
-pub strings-more : (b : List ℕ) (q z : ℕ) (s₀ : List ℕ) (k : ℕ) (st₀ d₀ : List ℕ) (p i a : ℕ) (s st d s₁ s₂ st₁ d₁ : List ℕ) → Stringing b q z s₀ k st₀ d₀ p i s st d → p < z
+pub strings-more : (b : List ℕ) (q z : ℕ) (s₀ : List ℕ) (k : ℕ) (st₀ : State) (d₀ : List ℕ) (p i a : ℕ) (s : List ℕ) (st : State) (d s₁ s₂ : List ℕ) (st₁ : State) (d₁ : List ℕ) → Stringing b q z s₀ k st₀ d₀ p i s st d → p < z
     → a ≡ num st → StringIs b p s s₁ i st st₁ d d₁ → s₂ ≡ noted s₁ i 7 a p → Stringing b q z s₀ k st₀ d₀ (end_of b p) (i + 1) s₂ st₁ d₁
 strings-more b q z s₀ k st₀ d₀ p i a s st d s₁ s₂ st₁ d₁ v l a₀ m f =
     let h = strings-head b p z l v.here in
@@ -177,15 +180,14 @@ strings-more b q z s₀ k st₀ d₀ p i a s st d s₁ s₂ st₁ d₁ v l a₀ 
       ready = ready-noted b s s₁ s₂ i p (p + 1) (end_of b p) z 7 a p st st₁ v.ready (omega arith) (omega arith) (omega arith) (row-le b (f_str_parts h.1.0 rnil) (end_of b p) z h.1.1) m.paid n;
       here = h.1;
       same = n.same ∙ m.paid.same ∙ v.same;
-      three = m.paid.three ∙ v.three;
       room = (m.is v.ready.view v.ready.seen h.0.0 0 0 h.0.1).size ∙ v.room;
     }
 
 -- the same, x being where the part ends
-pub strings-again : (b : List ℕ) (q z : ℕ) (s₀ : List ℕ) (k : ℕ) (st₀ d₀ : List ℕ) (p i a x : ℕ) (s st d s₁ s₂ st₁ d₁ : List ℕ) → Stringing b q z s₀ k st₀ d₀ p i s st d → p < z
+pub strings-again : (b : List ℕ) (q z : ℕ) (s₀ : List ℕ) (k : ℕ) (st₀ : State) (d₀ : List ℕ) (p i a x : ℕ) (s : List ℕ) (st : State) (d s₁ s₂ : List ℕ) (st₁ : State) (d₁ : List ℕ) → Stringing b q z s₀ k st₀ d₀ p i s st d → p < z
     → a ≡ num st → StringIs b p s s₁ i st st₁ d d₁ → s₂ ≡ noted s₁ i 7 a p → x ≡ end_of b p → Stringing b q z s₀ k st₀ d₀ x (i + 1) s₂ st₁ d₁
 strings-again b q z s₀ k st₀ d₀ p i a x s st d s₁ s₂ st₁ d₁ v l a₀ m f x₀ =
     subst (λ (x : ℕ). Stringing b q z s₀ k st₀ d₀ x (i + 1) s₂ st₁ d₁) (sym x₀) (strings-more b q z s₀ k st₀ d₀ p i a s st d s₁ s₂ st₁ d₁ v l a₀ m f)
 
-pub strings-done : (b : List ℕ) (q z : ℕ) (s₀ : List ℕ) (k : ℕ) (st₀ d₀ : List ℕ) (p i : ℕ) (s st d : List ℕ) → Stringing b q z s₀ k st₀ d₀ p i s st d → z ≤ p → Strung b q z s₀ s k st₀ st d₀ d i
+pub strings-done : (b : List ℕ) (q z : ℕ) (s₀ : List ℕ) (k : ℕ) (st₀ : State) (d₀ : List ℕ) (p i : ℕ) (s : List ℕ) (st : State) (d : List ℕ) → Stringing b q z s₀ k st₀ d₀ p i s st d → z ≤ p → Strung b q z s₀ s k st₀ st d₀ d i
 strings-done b q z s₀ k st₀ d₀ p i s st d v l = v.goes s st d i (strings-nil b p z s i st d l v.here)

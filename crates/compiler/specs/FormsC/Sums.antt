@@ -1,6 +1,6 @@
 -- Sums of a string's parts and of an object's entries: what the rules make of them, in the order in which it is put, and how much that is. Assumes nothing.
-use Rattle.std.specs.Prelude.{ℕ, suc, ◌+◌, ◌*◌, ◌≤◌, ◌≡◌, List, [], ◌∷◌, ◌++◌, set}
-use Rattle.std.proofs.Common.{arith, sym, ap₂, ◌∙◌, append-nil, length-append, set-set}
+use Rattle.std.specs.Prelude.{ℕ, suc, ◌+◌, ◌*◌, ◌≤◌, ◌≡◌, List, [], ◌∷◌, ◌++◌}
+use Rattle.std.proofs.Common.{arith, sym, ap₂, ◌∙◌, append-nil, length-append}
 use Rattle.std.proofs.Math.Path.{refl, ap, subst}
 use Rattle.std.proofs.Math.Option.{Option, none, some}
 use Rattle.std.proofs.Math.ListN.{length}
@@ -15,8 +15,9 @@ use Rattle.rules.specs.Outs.{Out, sum_out, sum_or, var_name, lone_out}
 use Rattle.rules.specs.Listing.{node_bytes, rec_bytes, table_bytes}
 use Rattle.rules.specs.Rules.{term, string, strings, entry, entries}
 use Rattle.reads.specs.Lengths.{mid-length}
-use Rattle.puts.specs.State.{num, off, ers, start_of, spot_of, next_of, Put, Own}
-use Rattle.puts.specs.Rooms.{put_then, own-node, table-append, kept, long, num-num, off-off}
+use Rattle.puts.specs.declared.state.State.{State}
+use Rattle.puts.specs.State.{num, off, ers, start_of, spot_of, next_of, Put, Own, with_num, with_off}
+use Rattle.puts.specs.Rooms.{put_then, own-node, table-append}
 use Rattle.cells.specs.Notes.{sum_all, held, held_errs, strings_of, entries_of, string_node, summed}
 use Rattle.cells.specs.Flat.{AllAt, SumIs, sum-flat}
 use Rattle.records.specs.Sums.{sizes, SumPut}
@@ -117,59 +118,45 @@ summed-count p t n (x ∷ y ∷ ys) =
 
 -- ---- how a sum is put
 
-pub put-rows : (rs : List Rec) (st st₁ d d₁ : List ℕ) → length st ≡ 3 → st₁ ≡ set (set st 0 (num st + length rs)) 1 (off st + length (table_bytes 2 rs)) → d₁ ≡ overlay d (off st) (table_bytes 2 rs)
+pub put-rows : (rs : List Rec) (st st₁ : State) (d d₁ : List ℕ) → st₁ ≡ with_off (with_num st (num st + length rs)) (off st + length (table_bytes 2 rs)) → d₁ ≡ overlay d (off st) (table_bytes 2 rs)
     → Put rs [] st st₁ d d₁
-put-rows rs st st₁ d d₁ t e j =
+put-rows rs st st₁ d d₁ e j =
     record {
-      nums = kept 1 0 st₀ st₁ (off st + length (table_bytes 2 rs)) (λ h. omega (arith, h)) e ∙ num-num st t st₀ (num st + length rs) refl;
-      offs = off-off st₀ (long 0 st st₀ (num st + length rs) refl ∙ t) st₁ (off st + length (table_bytes 2 rs)) e;
-      errs = kept 1 2 st₀ st₁ (off st + length (table_bytes 2 rs)) (λ h. omega (arith, h)) e ∙ kept 0 2 st st₀ (num st + length rs) (λ h. omega (arith, h)) refl ∙ omega arith;
-      same = long 1 st₀ st₁ (off st + length (table_bytes 2 rs)) e ∙ long 0 st st₀ (num st + length rs) refl;
+      nums = ap num e;
+      offs = ap off e;
+      errs = ap ers e ∙ omega arith;
       size = ap length j ∙ length-overlay d (off st) (table_bytes 2 rs);
       table = λ h. j;
       errors = λ h. j ∙ overlay-out d (off st) (table_bytes 2 rs) h ∙ sym (overlay-none d (ers st));
     }
-  where
-    st₀ : List ℕ
-    st₀ = set st 0 (num st + length rs)
 
 -- the numbers that it takes, and no errors
-pub sum-state : (p : ℕ) (t : Node) (ns : List Node) (o w : ℕ) (st st₁ d d₁ : List ℕ) → length st ≡ 3 → SumPut p t ns o w st st₁ d d₁
-    → (num st₁ ≡ num st + length (summed p t (num st) ns).more) × (ers st₁ ≡ ers st) × (length st₁ ≡ length st)
-sum-state p t ns o w st st₁ d d₁ l s =
-    let rs = (summed p t (num st) ns).more in
-    let st₀ : List ℕ = set st 0 (num st + length rs) in
-    let x = next_of o (off st + length (table_bytes 2 rs)) w in (
-      kept 1 0 st₀ st₁ x (λ h. omega (arith, h)) s.state ∙ num-num st l st₀ (num st + length rs) refl,
-      kept 1 2 st₀ st₁ x (λ h. omega (arith, h)) s.state ∙ kept 0 2 st st₀ (num st + length rs) (λ h. omega (arith, h)) refl,
-      long 1 st₀ st₁ x s.state ∙ long 0 st st₀ (num st + length rs) refl,
-    )
+pub sum-state : (p : ℕ) (t : Node) (ns : List Node) (o w : ℕ) (st st₁ : State) (d d₁ : List ℕ) → SumPut p t ns o w st st₁ d d₁
+    → (num st₁ ≡ num st + length (summed p t (num st) ns).more) × (ers st₁ ≡ ers st)
+sum-state p t ns o w st st₁ d d₁ s = (ap num s.state, ap ers s.state)
 
 -- the own record was reserved, what it contains was put, then the sum
-pub sum-own : (q : Out) (ms : List Rec) (p : ℕ) (t : Node) (ns : List Node) (o w : ℕ) (st st₁ st₂ st₃ d d₁ d₂ : List ℕ)
-    → length st ≡ 3 → w ≡ length (rec_bytes 2 q.self) → st₁ ≡ set st 1 (start_of o (off st) w)
+pub sum-own : (q : Out) (ms : List Rec) (p : ℕ) (t : Node) (ns : List Node) (o w : ℕ) (st st₁ st₂ st₃ : State) (d d₁ d₂ : List ℕ)
+    → w ≡ length (rec_bytes 2 q.self) → st₁ ≡ with_off st (start_of o (off st) w)
     → Put ms q.errs st₁ st₂ d d₁ → SumPut p t ns o w st₂ st₃ d₁ d₂
     → q.more ≡ ms ++ (summed p t (num st₂) ns).more → q.self.node ≡ (summed p t (num st₂) ns).self
     → Own q o st st₃ d d₂
-sum-own q ms p t ns o w st st₁ st₂ st₃ d d₁ d₂ l g e m s h i =
-    own-node q o w (spot_of o (off mid)) st st₁ mid st₃ d din d₂ l g e all refl
-    (s.state ∙ sym (set-set (set st₂ 0 (num st₂ + length rs)) 1 (off st₂ + length (table_bytes 2 rs)) (next_of o (off st₂ + length (table_bytes 2 rs)) w)) ∙ ap (λ (x : ℕ). set mid 1 (next_of o x w)) (sym end))
+sum-own q ms p t ns o w st st₁ st₂ st₃ d d₁ d₂ g e m s h i =
+    own-node q o w (spot_of o (off mid)) st st₁ mid st₃ d din d₂ g e all refl
+    (s.state ∙ ap (λ (x : ℕ). with_off mid (next_of o x w)) (sym end))
     (s.room ∙ ap₂ (λ (x : ℕ) (n : Node). overlay din (spot_of o x) (node_bytes 2 n)) (sym end) (sym i))
   where
     rs : List Rec
     rs = (summed p t (num st₂) ns).more
 
-    mid : List ℕ
-    mid = set (set st₂ 0 (num st₂ + length rs)) 1 (off st₂ + length (table_bytes 2 rs))
+    mid : State
+    mid = with_off (with_num st₂ (num st₂ + length rs)) (off st₂ + length (table_bytes 2 rs))
 
     din : List ℕ
     din = overlay d₁ (off st₂) (table_bytes 2 rs)
 
-    t₂ : length st₂ ≡ 3
-    t₂ = m.same ∙ long 1 st st₁ (start_of o (off st) w) e ∙ l
-
     put : Put rs [] st₂ mid d₁ din
-    put = put-rows rs st₂ mid d₁ din t₂ refl refl
+    put = put-rows rs st₂ mid d₁ din refl refl
 
     end : off mid ≡ off st₂ + length (table_bytes 2 rs)
     end = put.offs

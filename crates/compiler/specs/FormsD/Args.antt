@@ -10,6 +10,7 @@ use Rattle.rules.specs.Rows.{Env}
 use Rattle.rules.specs.Filters.{Top}
 use Rattle.rules.specs.Outs.{Out, Made, slot, size, arity}
 use Rattle.rules.specs.Rules.{term, args}
+use Rattle.puts.specs.declared.state.State.{State}
 use Rattle.puts.specs.State.{num, Put}
 use Rattle.puts.specs.Rooms.{put-none, put_then}
 use Rattle.reads.specs.Bytes.{TermAt}
@@ -23,16 +24,16 @@ use Rattle.compiler.specs.Post.{Ready, Stands, Paid, Laid, Passed}
 use Rattle.compiler.specs.Moves.{kept_less, laid_as, ready-part}
 
 -- the arguments ts, the first of number n, were compiled; their notes are rows from k on
-pub record ArgsIs (c : Top) (e : Env) (n : ℕ) (ts : Terms) (k : ℕ) (s' st st' d d' : List ℕ) : Type 0 where
+pub record ArgsIs (c : Top) (e : Env) (n : ℕ) (ts : Terms) (k : ℕ) (s' : List ℕ) (st st' : State) (d d' : List ℕ) : Type 0 where
   pub put : Put (args c ts e n).more (args c ts e n).errs st st' d d'
   pub made : numbers_of s' k (arity ts) ≡ (args c ts e n).made
 
-args_none : (c : Top) (e : Env) (n k : ℕ) (s st d : List ℕ) → ArgsIs c e n ts_nil k s st st d d
+args_none : (c : Top) (e : Env) (n k : ℕ) (s : List ℕ) (st : State) (d : List ℕ) → ArgsIs c e n ts_nil k s st st d d
 unfolding term numbers_of
 args_none c e n k s st d = record { put = put-none st d; made = refl }
 
 -- one, and those behind it
-args_one : (c : Top) (e : Env) (t : Term) (ts : Terms) (k : ℕ) (s' st st₁ st' d d₁ d' : List ℕ)
+args_one : (c : Top) (e : Env) (t : Term) (ts : Terms) (k : ℕ) (s' : List ℕ) (st st₁ st' : State) (d d₁ d' : List ℕ)
     → (let a = term c t e (suc (num st)) empty in Put (slot a) a.errs st st₁ d d₁)
     → number_at s' k ≡ num st → ArgsIs c e (num st₁) ts (k + 1) s' st₁ st' d₁ d'
     → ArgsIs c e (num st) (ts_cons t ts) k s' st st' d d'
@@ -48,14 +49,14 @@ args_one c e t ts k s' st st₁ st' d d₁ d' P n rest =
 
 -- ---- the loop: i arguments are passed, the next one is at p
 
-pub record ArgsLeft (vw : View) (b : List ℕ) (a z : ℕ) (ts : Terms) (e : Env) (k : ℕ) (st₀ d₀ : List ℕ) (p i : ℕ) (s st d : List ℕ) : Type 0 where
+pub record ArgsLeft (vw : View) (b : List ℕ) (a z : ℕ) (ts : Terms) (e : Env) (k : ℕ) (st₀ : State) (d₀ : List ℕ) (p i : ℕ) (s : List ℕ) (st : State) (d : List ℕ) : Type 0 where
   pub rest : Terms
   pub at : Row b (f_terms rest rnil) p z
   pub left : i + arity rest ≡ a
-  pub goes : (s' st' d' : List ℕ) → take (4 * (k + i)) s' ≡ take (4 * (k + i)) s → ArgsIs vw.top e (num st) rest (k + i) s' st st' d d'
+  pub goes : (s' : List ℕ) (st' : State) (d' : List ℕ) → take (4 * (k + i)) s' ≡ take (4 * (k + i)) s → ArgsIs vw.top e (num st) rest (k + i) s' st st' d d'
       → ArgsIs vw.top e (num st₀) ts k s' st₀ st' d₀ d'
 
-pub record Passing (b : List ℕ) (q a : ℕ) (s₀ : List ℕ) (k : ℕ) (st₀ d₀ : List ℕ) (p i : ℕ) (s st d : List ℕ) : Type 0 where
+pub record Passing (b : List ℕ) (q a : ℕ) (s₀ : List ℕ) (k : ℕ) (st₀ : State) (d₀ : List ℕ) (p i : ℕ) (s : List ℕ) (st : State) (d : List ℕ) : Type 0 where
   pub goes : (vw : View) → Seen vw b s₀ k → (ts : Terms) (z : ℕ) → Row b (f_terms ts rnil) q z → arity ts ≡ a → ArgsLeft vw b a z ts (env_of vw b s₀ k) k st₀ d₀ p i s st d
   pub ends : (ts : Terms) (z : ℕ) → Row b (f_terms ts rnil) q z → arity ts ≡ a → (rest : Terms) × Row b (f_terms rest rnil) p z × (i + arity rest ≡ a)
   pub some : (z : ℕ) × Ready b s (k + i) p z st × ((ts : Terms) × Row b (f_terms ts rnil) p z × (i + arity ts ≡ a))
@@ -65,7 +66,7 @@ pub record Passing (b : List ℕ) (q a : ℕ) (s₀ : List ℕ) (k : ℕ) (st₀
   pub paid : Paid (q + i) p k s₀ s st₀ st
   pub size : length d ≡ length d₀
 
-pub passing-start : (b : List ℕ) (q a : ℕ) (s : List ℕ) (k : ℕ) (st d : List ℕ) → (z : ℕ) × Ready b s k q z st × ((ts : Terms) × Row b (f_terms ts rnil) q z × (arity ts ≡ a))
+pub passing-start : (b : List ℕ) (q a : ℕ) (s : List ℕ) (k : ℕ) (st : State) (d : List ℕ) → (z : ℕ) × Ready b s k q z st × ((ts : Terms) × Row b (f_terms ts rnil) q z × (arity ts ≡ a))
     → Passing b q a s k st d q 0 s st d
 passing-start b q a s k st d y =
     let e : k ≡ k + 0 = omega arith in
@@ -76,11 +77,11 @@ passing-start b q a s k st d y =
       seen = λ vw g. subst (λ (j : ℕ). Seen vw b s j × (env_of vw b s j ≡ env_of vw b s k)) e (g, refl);
       few = omega arith;
       low = omega arith;
-      paid = record { kept = refl; same = refl; three = refl; nums = omega arith; offs = omega arith; errs = omega arith };
+      paid = record { kept = refl; same = refl; nums = omega arith; offs = omega arith; errs = omega arith };
       size = refl;
     }
 
-module _ (b : List ℕ) (q a : ℕ) (s₀ : List ℕ) (k : ℕ) (st₀ d₀ : List ℕ) (p i : ℕ) (s st d : List ℕ) (o : Passing b q a s₀ k st₀ d₀ p i s st d) where
+module _ (b : List ℕ) (q a : ℕ) (s₀ : List ℕ) (k : ℕ) (st₀ : State) (d₀ : List ℕ) (p i : ℕ) (s : List ℕ) (st : State) (d : List ℕ) (o : Passing b q a s₀ k st₀ d₀ p i s st d) where
   -- the next argument, where there is one
   abbrev Next : Type 0
   Next = Stands b p × (end_of b p ≤ o.some.0) × (end_of b p ≤ length b) × ((ts : Terms) × Row b (f_terms ts rnil) (end_of b p) o.some.0 × (i + 1 + arity ts ≡ a))
@@ -99,7 +100,7 @@ module _ (b : List ℕ) (q a : ℕ) (s₀ : List ℕ) (k : ℕ) (st₀ d₀ : Li
       let n = next l in
       (ready-part b s (k + i) p p o.some.0 (end_of b p) st o.some.1 (omega arith) (omega arith) n.1, n.0)
 
-  module _ (s₁ st₁ d₁ : List ℕ) (r : ℕ) (m : Laid b p s s₁ (k + i) st st₁ d d₁ 0 r) where
+  module _ (s₁ : List ℕ) (st₁ : State) (d₁ : List ℕ) (r : ℕ) (m : Laid b p s s₁ (k + i) st st₁ d d₁ 0 r) where
     room : i < a → 4 * (k + i) + 4 ≤ length s₁
     room l = omega (arith, o.some.1.spare, m.paid.same, (next l).2)
 
@@ -122,7 +123,6 @@ module _ (b : List ℕ) (q a : ℕ) (s₀ : List ℕ) (k : ℕ) (st₀ d₀ : Li
           paid = record {
             kept = kept_less k (k + i) s s₂ (omega arith) keep ∙ o.paid.kept;
             same = same₂ ∙ o.paid.same;
-            three = m.paid.three ∙ o.paid.three;
             nums = omega (arith, m.paid.nums, o.paid.nums);
             offs = omega (arith, m.paid.offs, o.paid.offs);
             errs = omega (arith, m.paid.errs, o.paid.errs);
@@ -158,7 +158,6 @@ module _ (b : List ℕ) (q a : ℕ) (s₀ : List ℕ) (k : ℕ) (st₀ d₀ : Li
             let n' = next l in
             record {
               small = y.small;
-              three = m.paid.three ∙ y.three;
               view = y.view;
               seen = (noted-on y.view y.seen).0;
               order = n'.1;
@@ -181,12 +180,12 @@ module _ (b : List ℕ) (q a : ℕ) (s₀ : List ℕ) (k : ℕ) (st₀ d₀ : Li
             → ArgsLeft vw b a z ts (env_of vw b s₀ k) k st₀ d₀ (end_of b p) (i + 1) s₂ st₁ d₁
         left vw g ts z w =
             on-arity-cons b p z
-            (λ rest. ((s' st' d' : List ℕ) → take (4 * (k + i)) s' ≡ take (4 * (k + i)) s → ArgsIs vw.top (env_of vw b s₀ k) (num st) rest (k + i) s' st st' d d' → ArgsIs vw.top (env_of vw b s₀ k) (num st₀) ts k s' st₀ st' d₀ d')
+            (λ rest. ((s' : List ℕ) (st' : State) (d' : List ℕ) → take (4 * (k + i)) s' ≡ take (4 * (k + i)) s → ArgsIs vw.top (env_of vw b s₀ k) (num st) rest (k + i) s' st st' d d' → ArgsIs vw.top (env_of vw b s₀ k) (num st₀) ts k s' st₀ st' d₀ d')
             → ArgsLeft vw b a z ts (env_of vw b s₀ k) k st₀ d₀ (end_of b p) (i + 1) s₂ st₁ d₁)
             (a - i - 1) step w.rest (omega (arith, w.left, l)) w.at w.goes
           where
             step : (t : Term) (us : Terms) → TermAt b t p → Row b (f_terms us rnil) (end_of b p) z → arity us ≡ a - i - 1
-                → ((s' st' d' : List ℕ) → take (4 * (k + i)) s' ≡ take (4 * (k + i)) s → ArgsIs vw.top (env_of vw b s₀ k) (num st) (ts_cons t us) (k + i) s' st st' d d' → ArgsIs vw.top (env_of vw b s₀ k) (num st₀) ts k s' st₀ st' d₀ d')
+                → ((s' : List ℕ) (st' : State) (d' : List ℕ) → take (4 * (k + i)) s' ≡ take (4 * (k + i)) s → ArgsIs vw.top (env_of vw b s₀ k) (num st) (ts_cons t us) (k + i) s' st st' d d' → ArgsIs vw.top (env_of vw b s₀ k) (num st₀) ts k s' st₀ st' d₀ d')
                 → ArgsLeft vw b a z ts (env_of vw b s₀ k) k st₀ d₀ (end_of b p) (i + 1) s₂ st₁ d₁
             step t us x v e f =
                 let u = o.seen vw g in

@@ -1,6 +1,6 @@
 -- Calls: what is known of the one at p before its arguments are compiled, what each step is ready for, and the rule's record from what was put. A call that the
 -- rules supply. Assumes nothing.
-use Rattle.std.specs.Prelude.{ℕ, ◌+◌, ◌-◌, ◌*◌, ◌^◌, ◌≤◌, ◌<◌, ◌≡◌, refl, Bool, true, false, cond, List, [], ◌∷◌, ◌++◌, eqb, ltb, length, get_or, set, take, drop}
+use Rattle.std.specs.Prelude.{ℕ, ◌+◌, ◌-◌, ◌*◌, ◌^◌, ◌≤◌, ◌<◌, ◌≡◌, refl, Bool, true, false, cond, List, [], ◌∷◌, ◌++◌, eqb, ltb, length, get_or, take, drop}
 use Rattle.std.proofs.Common.{arith, ap₂, subst, ◌∙◌, length-take, length-drop}
 use Rattle.std.proofs.Math.Path.{sym, ap}
 use Rattle.fields.specs.Number.{number}
@@ -17,15 +17,16 @@ use Rattle.rules.specs.Filters.{home_of, Found, nothing, argument, local, of_mod
 use Rattle.rules.specs.Outs.{Out, Made, bare, slot, arity, call_out}
 use Rattle.rules.specs.Listing.{rec_bytes, table_bytes, errs_bytes}
 use Rattle.rules.specs.Rules.{term, args, called}
-use Rattle.puts.specs.State.{num, off, ers, late, start_of, spot_of, next_of, Put}
-use Rattle.puts.specs.Rooms.{kept, long, ers-ers, put_one, put_then, put-errs, own-node, start-high, spot-within, placed-within}
+use Rattle.puts.specs.declared.state.State.{State}
+use Rattle.puts.specs.State.{num, off, ers, late, start_of, spot_of, next_of, Put, with_num, with_off, with_ers}
+use Rattle.puts.specs.Rooms.{put_one, put_then, put-errs, own-node, start-high, spot-within, placed-within}
 use Rattle.reads.specs.Bytes.{many, TermAt, name_at}
 use Rattle.reads.specs.Widths.{call_width}
 use Rattle.reads.specs.Shapes.{CallAt, on_call, terms-many}
 use Rattle.cells.specs.Cells.{View, Seen, env_of, outer}
 use Rattle.cells.specs.Notes.{numbers_of}
 use Rattle.rows.specs.Kept.{seen-kept, heads-below}
-use Rattle.finds.specs.declared.Found as Hit
+use Rattle.finds.specs.Hits as Hit
 use Rattle.finds.specs.Means.{FoundIs, Means}
 use Rattle.finds.specs.Under.{call_length, args-made, found-arity, found-width, missing-kind}
 use Rattle.records.specs.Calls.{CallReady, CallPut, lost_errs, Failed, call-errs}
@@ -38,13 +39,12 @@ use Rattle.compiler.specs.FormsD.Meanings.{callable, of-call}
 
 -- ---- errors alone
 
-pub put-fails : (es : List Err) (st st₁ d d₁ : List ℕ) → length st ≡ 3 → st₁ ≡ set st 2 (ers st + length (errs_bytes 2 es)) → d₁ ≡ overlay d (ers st) (errs_bytes 2 es) → Put [] es st st₁ d d₁
-put-fails es st st₁ d d₁ t e j =
+pub put-fails : (es : List Err) (st st₁ : State) (d d₁ : List ℕ) → st₁ ≡ with_ers st (ers st + length (errs_bytes 2 es)) → d₁ ≡ overlay d (ers st) (errs_bytes 2 es) → Put [] es st st₁ d d₁
+put-fails es st st₁ d d₁ e j =
     record {
-      nums = kept 2 0 st st₁ _ (λ h. omega (arith, h)) e ∙ omega arith;
-      offs = kept 2 1 st st₁ _ (λ h. omega (arith, h)) e ∙ omega arith;
-      errs = ers-ers st t st₁ _ e;
-      same = long 2 st st₁ _ e;
+      nums = ap num e ∙ omega arith;
+      offs = ap off e ∙ omega arith;
+      errs = ap ers e;
       size = ap length j ∙ length-overlay d (ers st) (errs_bytes 2 es);
       table = λ h. j ∙ overlay-out d (ers st) (errs_bytes 2 es) h ∙ sym (overlay-none d (off st));
       errors = λ h. j;
@@ -122,35 +122,35 @@ supplied-ready b s x at y f v i l =
 pub supplied-fail : (b s : List ℕ) → ((vw : View) × (k : ℕ) × Seen vw b s k) → 4 ≤ length s
 supplied-fail b s v = omega (arith, heads-below v.0 b s v.1 v.2, v.2.within)
 
-pub supplied-put : (b s : List ℕ) (x : Text) (at w y r : ℕ) (f : Hit.Found) (st st₁ st₂ d d₁ d₂ : List ℕ) → length st ≡ 3 → Means b s x at 0 f → w ≡ call_width f.kind 0
-    → y ≡ off st → st₁ ≡ set (set st 0 (num st + 1)) 1 (off st + w) → CallPut b s f 0 0 y d d₁ 0 r → Failed s f 0 st₁ st₂ d₁ d₂
+pub supplied-put : (b s : List ℕ) (x : Text) (at w y r : ℕ) (f : Hit.Found) (st st₁ st₂ : State) (d d₁ d₂ : List ℕ) → Means b s x at 0 f → w ≡ call_width f.kind 0
+    → y ≡ off st → st₁ ≡ with_off (with_num st (num st + 1)) (off st + w) → CallPut b s f 0 0 y d d₁ 0 r → Failed s f 0 st₁ st₂ d₁ d₂
     → (vw : View) (k p : ℕ) → Seen vw b s k → let q = called vw.top p x at 0 (bare []) (env_of vw b s k) empty in Put (slot q) q.errs st st₂ d d₂
 unfolding numbers_of
-supplied-put b s x at w y r f st st₁ st₂ d d₁ d₂ t i ew ey es u l vw k p g =
+supplied-put b s x at w y r f st st₁ st₂ d d₁ d₂ i ew ey es u l vw k p g =
     let e = env_of vw b s k in
     let o : Made (List ℕ) = bare [] in
     let j = i vw k g in
     let q : Out = called vw.top p x at 0 o e empty in
     let c = called-put vw b s s k g e x at 0 p 0 o f j 0 y r d d₁ g.view refl u in
-    let P : Put (q.self ∷ []) [] st st₁ d d₁ = put_one q.self w y st st₁ d d₁ t (ew ∙ called-wide vw b s s k g e x at 0 p 0 o f j refl) ey es c.0 in
-    let Q : Put [] (lost_errs (get_or s 3 0) 0 f) st₁ st₂ d₁ d₂ = put-fails (lost_errs (get_or s 3 0) 0 f) st₁ st₂ d₁ d₂ (P.same ∙ t) l.state l.room in
+    let P : Put (q.self ∷ []) [] st st₁ d d₁ = put_one q.self w y st st₁ d d₁ (ew ∙ called-wide vw b s s k g e x at 0 p 0 o f j refl) ey es c.0 in
+    let Q : Put [] (lost_errs (get_or s 3 0) 0 f) st₁ st₂ d₁ d₂ = put-fails (lost_errs (get_or s 3 0) 0 f) st₁ st₂ d₁ d₂ l.state l.room in
     let R : Put (q.self ∷ []) (lost_errs (get_or s 3 0) 0 f) st st₂ d d₂ = put_then (q.self ∷ []) [] [] (lost_errs (get_or s 3 0) 0 f) st st₁ st₂ d d₁ d₂ P Q in
     subst (λ (ms : List Rec). Put (q.self ∷ ms) q.errs st st₂ d d₂) (sym (called_more vw b s s k g e x at 0 p 0 o f j))
     (subst (λ (xs : List Err). Put (q.self ∷ []) xs st st₂ d d₂) (sym (called-errs vw b s s k g e x at 0 p 0 o f j g.base.home)) R)
 
-pub supplied-ers : (w : ℕ) (st st₁ : List ℕ) → length st ≡ 3 → st₁ ≡ set (set st 0 (num st + 1)) 1 (off st + w) → ers st₁ ≡ ers st
-supplied-ers w st st₁ t e = (set_both st st₁ (num st + 1) (off st + w) t e).ers
+pub supplied-ers : (w : ℕ) (st st₁ : State) → st₁ ≡ with_off (with_num st (num st + 1)) (off st + w) → ers st₁ ≡ ers st
+supplied-ers w st st₁ e = (set_both st st₁ (num st + 1) (off st + w) e).ers
 
 -- what it took
-pub supplied-few : (s : List ℕ) (w : ℕ) (f : Hit.Found) (st st₁ st₂ d₁ d₂ : List ℕ) → length st ≡ 3 → w ≡ call_width f.kind 0 → st₁ ≡ set (set st 0 (num st + 1)) 1 (off st + w) → Failed s f 0 st₁ st₂ d₁ d₂
+pub supplied-few : (s : List ℕ) (w : ℕ) (f : Hit.Found) (st st₁ st₂ : State) (d₁ d₂ : List ℕ) → w ≡ call_width f.kind 0 → st₁ ≡ with_off (with_num st (num st + 1)) (off st + w) → Failed s f 0 st₁ st₂ d₁ d₂
     → (num st₂ ≡ num st + 1) × (off st₂ ≤ off st + 10) × (ers st₂ ≤ ers st + 11)
-supplied-few s w f st st₁ st₂ d₁ d₂ t ew es l =
+supplied-few s w f st st₁ st₂ d₁ d₂ ew es l =
     let a = common-both in
-    let c = set-ers st₁ st₂ (ers st₁ + length (errs_bytes 2 (lost_errs (get_or s 3 0) 0 f))) (a.same ∙ t) l.state in
+    let c = set-ers st₁ st₂ (ers st₁ + length (errs_bytes 2 (lost_errs (get_or s 3 0) 0 f))) l.state in
     (c.num ∙ a.num, omega (arith, c.off, a.off, ew, width_few f.kind 0), omega (arith, c.ers, a.ers, lost-few (get_or s 3 0) 0 f))
   where
-    common-both : Stored st st₁ (num st + 1) (off st + w) (ers st)
-    common-both = set_both st st₁ (num st + 1) (off st + w) t es
+    common-both : Stored st₁ (num st + 1) (off st + w) (ers st)
+    common-both = set_both st st₁ (num st + 1) (off st + w) es
 
 -- ---- a call
 
@@ -202,35 +202,35 @@ call-args b p q a f h ts n =
     let r : Row b (f_terms ts rnil) q (end_of b p) = subst (λ (i : ℕ). Row b (f_terms ts rnil) i (end_of b p)) (sym f) n.args in
     (r, sym (terms-many ts) ∙ sym (h (f_terms ts rnil) r).0)
 
-pub call-reserve : (b s : List ℕ) (k p q a o w : ℕ) (f : Hit.Found) (st : List ℕ) → Called b p q a → Ready b s k (p + 1) (end_of b p) st → Placed o st → w ≡ call_width f.kind a → o + w < 2 ^ 64
+pub call-reserve : (b s : List ℕ) (k p q a o w : ℕ) (f : Hit.Found) (st : State) → Called b p q a → Ready b s k (p + 1) (end_of b p) st → Placed o st → w ≡ call_width f.kind a → o + w < 2 ^ 64
 call-reserve b s k p q a o w f st c y h ew =
     let n : o ≤ late = placed-within o (off st) h (omega (arith, y.offs)) in omega (arith, n, ew, width_few f.kind a, c.high, c.fits, y.small)
 
 -- the arguments
-pub call-ready : (b s : List ℕ) (k p q a o w : ℕ) (f : Hit.Found) (st st₁ : List ℕ) → Called b p q a → Ready b s k (p + 1) (end_of b p) st → w ≡ call_width f.kind a → st₁ ≡ set st 1 (start_of o (off st) w)
+pub call-ready : (b s : List ℕ) (k p q a o w : ℕ) (f : Hit.Found) (st st₁ : State) → Called b p q a → Ready b s k (p + 1) (end_of b p) st → w ≡ call_width f.kind a → st₁ ≡ with_off st (start_of o (off st) w)
     → (z : ℕ) × Ready b s k q z st₁ × ((ts : Terms) × Row b (f_terms ts rnil) q z × (arity ts ≡ a))
 call-ready b s k p q a o w f st st₁ c y ew e =
     (end_of b p, ready-start b s k (p + 1) q (end_of b p) (end_of b p) o w st st₁ y (omega (arith, c.low)) (omega (arith, c.high)) (omega arith) (omega (arith, ew, width_few f.kind a, c.high, c.fits, y.small)) e, c.args)
 
 -- behind them
-module _ (b s s' : List ℕ) (k p q a o w : ℕ) (f : Hit.Found) (st st₁ st₂ d d₁ : List ℕ) (c : Called b p q a) (y : Ready b s k (p + 1) (end_of b p) st) (ew : w ≡ call_width f.kind a)
-    (e₁ : st₁ ≡ set st 1 (start_of o (off st) w)) (m : Passed b q a s s' k st₁ st₂ d d₁) where
+module _ (b s s' : List ℕ) (k p q a o w : ℕ) (f : Hit.Found) (st st₁ st₂ : State) (d d₁ : List ℕ) (c : Called b p q a) (y : Ready b s k (p + 1) (end_of b p) st) (ew : w ≡ call_width f.kind a)
+    (e₁ : st₁ ≡ with_off st (start_of o (off st) w)) (m : Passed b q a s s' k st₁ st₂ d d₁) where
   passed-paid : Paid (q + a) (end_of b p) k s s' st₁ st₂
   passed-paid = m.paid c.args.0 (end_of b p) c.args.1 c.args.2
 
   wide : w ≤ 10 + 3 * a
   wide = omega (arith, ew, width_few f.kind a)
 
-  first : Stored st st₁ (num st) (start_of o (off st) w) (ers st)
-  first = set-off st st₁ (start_of o (off st) w) y.three e₁
+  first : Stored st₁ (num st) (start_of o (off st) w) (ers st)
+  first = set-off st st₁ (start_of o (off st) w) e₁
 
   pub call-fail : (4 ≤ length s') × (ers st₂ + 11 < 2 ^ 64)
   call-fail = let u = passed-paid in
       (omega (arith, heads-below y.view b s k y.seen, y.seen.within, u.same), omega (arith, u.errs, first.ers, y.errs, c.fits, y.small, c.low, c.high))
 
-  module _ (st₃ d₂ : List ℕ) (l : Failed s' f a st₂ st₃ d₁ d₂) where
-    second : Stored st₂ st₃ (num st₂) (off st₂) (ers st₂ + length (errs_bytes 2 (lost_errs (get_or s' 3 0) a f)))
-    second = set-ers st₂ st₃ (ers st₂ + length (errs_bytes 2 (lost_errs (get_or s' 3 0) a f))) (passed-paid.three ∙ first.same ∙ y.three) l.state
+  module _ (st₃ : State) (d₂ : List ℕ) (l : Failed s' f a st₂ st₃ d₁ d₂) where
+    second : Stored st₃ (num st₂) (off st₂) (ers st₂ + length (errs_bytes 2 (lost_errs (get_or s' 3 0) a f)))
+    second = set-ers st₂ st₃ (ers st₂ + length (errs_bytes 2 (lost_errs (get_or s' 3 0) a f))) l.state
 
     off_small : off st₃ + w < 2 ^ 40
     off_small = let u = passed-paid in omega (arith, second.off, u.offs, first.off, start-high o (off st) w, y.offs, wide, c.low, c.high, c.fits, y.small)
@@ -248,13 +248,13 @@ module _ (b s s' : List ℕ) (k p q a o w : ℕ) (f : Hit.Found) (st st₁ st₂
           called-ready y.view b s' s k y.seen (env_of y.view b s k) x at a 0 0 (bare []) f (i y.view y.seen s' u.kept u.same) k v
           (omega (arith, y.spare, u.same, c.low, c.high, c.fits)) (omega (arith, r, c.high, c.fits, y.small))
 
-pub call-did : (b : List ℕ) (p : ℕ) (s s' : List ℕ) (k o q a w v r : ℕ) (x : Text) (f : Hit.Found) (st st₁ st₂ st₃ st₄ d d₁ d₂ d₃ : List ℕ) (al : ℕ)
+pub call-did : (b : List ℕ) (p : ℕ) (s s' : List ℕ) (k o q a w v r : ℕ) (x : Text) (f : Hit.Found) (st st₁ st₂ st₃ st₄ : State) (d d₁ d₂ d₃ : List ℕ) (al : ℕ)
     → get_or b p 0 ≡ 0xA8 → Ready b s k (p + 1) (end_of b p) st → Stands b p
     → q ≡ end_of b (p + 3) → ((rs : Roses) → Row b rs q (end_of b p) → (a ≡ many rs) × (q + 3 * a ≤ end_of b p))
     → x ≡ text_of b (p + 3) → Meaning b s k x (p + 6) a f → w ≡ call_width f.kind a
-    → st₁ ≡ set st 1 (start_of o (off st) w)
+    → st₁ ≡ with_off st (start_of o (off st) w)
     → Passed b q a s s' k st₁ st₂ d d₁ → Failed s' f a st₂ st₃ d₁ d₂
-    → v ≡ spot_of o (off st₃) → st₄ ≡ set st₃ 1 (next_of o (off st₃) w)
+    → v ≡ spot_of o (off st₃) → st₄ ≡ with_off st₃ (next_of o (off st₃) w)
     → CallPut b s' f k a v d₂ d₃ al r
     → Did b p s s' k o st st₄ d d₃ al r
 unfolding term
@@ -269,14 +269,14 @@ call-did b p s s' k o q a w v r x f st st₁ st₂ st₃ st₄ d d₁ d₂ d₃ 
     pd : Paid (q + a) (end_of b p) k s s' st₁ st₂
     pd = passed-paid b s s' k p q a o w f st st₁ st₂ d d₁ c y ew e₁ m
 
-    fst : Stored st st₁ (num st) (start_of o (off st) w) (ers st)
-    fst = set-off st st₁ (start_of o (off st) w) y.three e₁
+    fst : Stored st₁ (num st) (start_of o (off st) w) (ers st)
+    fst = set-off st st₁ (start_of o (off st) w) e₁
 
-    snd : Stored st₂ st₃ (num st₂) (off st₂) (ers st₂ + length (errs_bytes 2 (lost_errs (get_or s' 3 0) a f)))
+    snd : Stored st₃ (num st₂) (off st₂) (ers st₂ + length (errs_bytes 2 (lost_errs (get_or s' 3 0) a f)))
     snd = second b s s' k p q a o w f st st₁ st₂ d d₁ c y ew e₁ m st₃ d₂ l
 
-    fourth : Stored st₃ st₄ (num st₃) (next_of o (off st₃) w) (ers st₃)
-    fourth = set-off st₃ st₄ (next_of o (off st₃) w) (snd.same ∙ pd.three ∙ fst.same ∙ y.three) e₄
+    fourth : Stored st₄ (num st₃) (next_of o (off st₃) w) (ers st₃)
+    fourth = set-off st₃ st₄ (next_of o (off st₃) w) e₄
 
     at-eq : p + 6 ≡ p + 3 + 3
     at-eq = omega arith
@@ -294,14 +294,14 @@ call-did b p s s' k o q a w v r x f st st₁ st₂ st₃ st₄ d d₁ d₂ d₃ 
         let q' : Out = called vw.top p x (p + 6) a G E al in
         let wd : w ≡ length (rec_bytes 2 q'.self) = ew ∙ called-wide vw b s' s k n E x (p + 6) a p al G f j (args-made vw.top ts E (num st) ∙ ea) in
         let put = called-put vw b s' s k n E x (p + 6) a p al G f j k v r d₂ d₃ (n'.0.view ∙ ap (λ (z : Env). outer vw + count z) n'.1) (sym M.1) u in
-        let F : Put [] (lost_errs (get_or s' 3 0) a f) st₂ st₃ d₁ d₂ = put-fails (lost_errs (get_or s' 3 0) a f) st₂ st₃ d₁ d₂ (pd.three ∙ fst.same ∙ y.three) l.state l.room in
+        let F : Put [] (lost_errs (get_or s' 3 0) a f) st₂ st₃ d₁ d₂ = put-fails (lost_errs (get_or s' 3 0) a f) st₂ st₃ d₁ d₂ l.state l.room in
         let P : Put G.more (G.errs ++ lost_errs (get_or s' 3 0) a f) st₁ st₃ d d₂ = put-errs G.more G.errs (lost_errs (get_or s' 3 0) a f) st₁ st₂ st₃ d d₁ d₂ M.0 F in
         let em = called_more vw b s' s k n E x (p + 6) a p al G f j in
         let ee = called-errs vw b s' s k n E x (p + 6) a p al G f j n'.0.base.home in
         let P' : Put q'.more q'.errs st₁ st₃ d d₂ =
         subst (λ (ms : List Rec). Put ms q'.errs st₁ st₃ d d₂) (sym em) (subst (λ (xs : List Err). Put G.more xs st₁ st₃ d d₂) (sym ee) P) in
         record {
-          own = own-node q' o w v st st₁ st₃ st₄ d d₂ d₃ y.three wd e₁ P' ev e₄ put.0;
+          own = own-node q' o w v st st₁ st₃ st₄ d d₂ d₃ wd e₁ P' ev e₄ put.0;
           tail = put.1;
           wide = omega (arith, sym wd, ew, width_few f.kind a, ap (λ (ms : List Rec). length (table_bytes 2 ms)) em, M.0.offs, pd.offs, c.low);
         }

@@ -6,7 +6,6 @@ use Rattle.std.proofs.Math.Path.{ap}
 use mathlib.Core.List.{List, ◌∷◌}
 use Rattle.std.specs.Int.Bits.{bit_or}
 use Rattle.std.proofs.Math.ListN.{length, take, length-set}
-use Rattle.std.proofs.lemmas.List.{set-get_or}
 use Rattle.tree.specs.Rose.{rnil, rcons, end_of, text_of, Row}
 use Rattle.tree.specs.Tree.{Name, Term, Defs, ds_nil, ds_cons, Def, def, t_def}
 use Rattle.tree.specs.Form.{f_term, f_defs, f_names}
@@ -17,7 +16,8 @@ use Rattle.rules.specs.Outs.{Out, slot, size}
 use Rattle.rules.specs.Listing.{rec_bytes, table_bytes}
 use Rattle.rules.specs.Rules.{Scope, term, defs, body, defined}
 use Rattle.compiler.specs.declared.Run.{Run}
-use Rattle.puts.specs.State.{num, off, ers, late, start_of, Put, Own}
+use Rattle.puts.specs.declared.state.State.{State}
+use Rattle.puts.specs.State.{num, off, ers, late, start_of, Put, Own, with_off}
 use Rattle.puts.specs.Rooms.{put-none, put_then, table-append, own-of-def, start-low, start-own, start-other}
 use Rattle.reads.specs.Bytes.{after, Fields, name_at, names_of, TermAt, DefAt}
 use Rattle.reads.specs.Shapes.{UnderAt, on-def, DefIs, on-the-def, on-def-cons, on-def-nil, length-names, head-fits}
@@ -35,7 +35,7 @@ use Rattle.compiler.specs.Common as common
 use Rattle.compiler.specs.Common.{did_of}
 
 -- there are rows below the locals
-pub ready-cells : (b s : List ℕ) (k p z : ℕ) (st : List ℕ) → Ready b s k p z st → (9 ≤ length s) × (0 < k) × (k < 65536)
+pub ready-cells : (b s : List ℕ) (k p z : ℕ) (st : State) → Ready b s k p z st → (9 ≤ length s) × (0 < k) × (k < 65536)
 ready-cells b s k p z st y = let n = heads-below y.view b s k y.seen in (omega (arith, n, y.seen.within), omega (arith, n), omega (arith, y.seen.within, y.seen.small))
 
 -- ---- one definition
@@ -93,7 +93,7 @@ Inside b s s₁ k q a n =
     ((vw : View) → Seen vw b s k → Seen vw b s₁ (k + a + 1) × (env_of vw b s₁ (k + a + 1) ≡ inside (name_at b (q + 3)) (names_of b a (end_of b (q + 3))) n (env_of vw b s k)))
     × Opened s (set s₁ 2 (get_or s 2 0)) k (k + a + 1)
 
-module _ (b s : List ℕ) (k q a u n : ℕ) (st : List ℕ) (y : Ready b s k q (end_of b q) st) (o : Opening b q a u) (en : n ≡ num st) where
+module _ (b s : List ℕ) (k q a u n : ℕ) (st : State) (y : Ready b s k q (end_of b q) st) (o : Opening b q a u) (en : n ≡ num st) where
   number-few : n < 65536
   number-few = omega (arith, en, y.nums)
 
@@ -117,7 +117,6 @@ module _ (b s : List ℕ) (k q a u n : ℕ) (st : List ℕ) (y : Ready b s k q (
     open-body = (
       record {
         small = y.small;
-        three = y.three;
         view = y.view;
         seen = (i.0 y.view y.seen).0;
         order = omega arith;
@@ -130,7 +129,7 @@ module _ (b s : List ℕ) (k q a u n : ℕ) (st : List ℕ) (y : Ready b s k q (
       o.body,
     )
 
-    module _ (s₂ st₁ d d₁ : List ℕ) (al l r : ℕ) (el : l ≡ bit (get_or s 2 0)) (m : Laid b u s₁ s₂ (k + a + 1) st st₁ d d₁ (bit_or al l) r) where
+    module _ (s₂ : List ℕ) (st₁ : State) (d d₁ : List ℕ) (al l r : ℕ) (el : l ≡ bit (get_or s 2 0)) (m : Laid b u s₁ s₂ (k + a + 1) st st₁ d d₁ (bit_or al l) r) where
       pub open-leave : (4 * (k + a + 1) ≤ length s₂) × (3 ≤ length s₂) × (k ≤ k + a + 1) × ((j : ℕ) → k ≤ j → j < k + a + 1 → kind_at s₂ j < 6 → (head_at s₂ j < length s₂) × (head_at s₂ j < 4 * k))
       open-leave =
           let w = seen-kept y.view b s₁ s₂ (k + a + 1) m.paid.kept m.paid.same (i.0 y.view y.seen).0 in
@@ -169,7 +168,6 @@ module _ (b s : List ℕ) (k q a u n : ℕ) (st : List ℕ) (y : Ready b s k q (
               is = λ vw g. on-the-def b q (Goal vw) (is vw g);
               back = opened-from;
               same = same₄ ∙ same₃;
-              three = m.paid.three;
               nums = omega (arith, m.paid.nums, o.low, o.last);
               offs = omega (arith, m.paid.offs, o.low, o.last);
               errs = omega (arith, m.paid.errs, o.low, o.last);
@@ -225,15 +223,15 @@ module _ (b s : List ℕ) (k q a u n : ℕ) (st : List ℕ) (y : Ready b s k q (
 -- ---- definitions one after the other
 
 -- the definitions ds, the first of number n, were compiled, and the rows e' are in view then
-pub record DefsIs (c : Top) (e : Env) (n : ℕ) (ds : Defs) (al : ℕ) (e' : Env) (st st' d d' : List ℕ) : Type 0 where
+pub record DefsIs (c : Top) (e : Env) (n : ℕ) (ds : Defs) (al : ℕ) (e' : Env) (st st' : State) (d d' : List ℕ) : Type 0 where
   pub put : Put (defs c ds e n al).more (defs c ds e n al).errs st st' d d'
   pub env : e' ≡ (defs c ds e n al).env
 
-defs-none : (c : Top) (e : Env) (n al : ℕ) (st d : List ℕ) → DefsIs c e n ds_nil al e st st d d
+defs-none : (c : Top) (e : Env) (n al : ℕ) (st : State) (d : List ℕ) → DefsIs c e n ds_nil al e st st d d
 unfolding term
 defs-none c e n al st d = record { put = put-none st d; env = refl }
 
-defs-one : (c : Top) (e : Env) (x : Def) (ds : Defs) (al : ℕ) (e₁ e' : Env) (st st₁ st' d d₁ d' : List ℕ)
+defs-one : (c : Top) (e : Env) (x : Def) (ds : Defs) (al : ℕ) (e₁ e' : Env) (st st₁ st' : State) (d d₁ d' : List ℕ)
     → (let o = body c x e (num st) al in Put (slot o) o.errs st st₁ d d₁ × (e₁ ≡ defined c x e (num st) o.tail ∷ e))
     → DefsIs c e₁ (num st₁) ds al e' st₁ st' d₁ d' → DefsIs c e (num st) (ds_cons x ds) al e' st st' d d'
 unfolding term
@@ -249,25 +247,24 @@ abbrev pub DefsRow : List ℕ → Defs → Term → ℕ → ℕ → Type 0
 DefsRow b ds t q z = Row b (f_defs ds (rcons (f_term t) rnil)) q z
 
 -- the loop: the next definition, or the term behind them, is at p, and row i is the next
-pub record DefsLeft (vw : View) (b : List ℕ) (t : Term) (z : ℕ) (ds : Defs) (e : Env) (st₀ d₀ : List ℕ) (al p i : ℕ) (s st d : List ℕ) : Type 0 where
+pub record DefsLeft (vw : View) (b : List ℕ) (t : Term) (z : ℕ) (ds : Defs) (e : Env) (st₀ : State) (d₀ : List ℕ) (al p i : ℕ) (s : List ℕ) (st : State) (d : List ℕ) : Type 0 where
   pub rest : Defs
   pub at : DefsRow b rest t p z
-  pub goes : (e' : Env) (st' d' : List ℕ) → DefsIs vw.top (env_of vw b s i) (num st) rest al e' st st' d d' → DefsIs vw.top e (num st₀) ds al e' st₀ st' d₀ d'
+  pub goes : (e' : Env) (st' : State) (d' : List ℕ) → DefsIs vw.top (env_of vw b s i) (num st) rest al e' st st' d d' → DefsIs vw.top e (num st₀) ds al e' st₀ st' d₀ d'
 
-pub record Scoping (b : List ℕ) (q : ℕ) (s₀ : List ℕ) (k : ℕ) (st₀ d₀ : List ℕ) (al p i : ℕ) (s st d : List ℕ) : Type 0 where
+pub record Scoping (b : List ℕ) (q : ℕ) (s₀ : List ℕ) (k : ℕ) (st₀ : State) (d₀ : List ℕ) (al p i : ℕ) (s : List ℕ) (st : State) (d : List ℕ) : Type 0 where
   pub goes : (vw : View) → Seen vw b s₀ k → (ds : Defs) (t : Term) (z : ℕ) → DefsRow b ds t q z → DefsLeft vw b t z ds (env_of vw b s₀ k) st₀ d₀ al p i s st d
   pub ends : (ds : Defs) (t : Term) (z : ℕ) → DefsRow b ds t q z → (rest : Defs) × DefsRow b rest t p z
   pub seen : (vw : View) → Seen vw b s₀ k → Seen vw b s i
   pub some : (z : ℕ) × Ready b s i p z st × ((ds : Defs) × (t : Term) × DefsRow b ds t p z)
   pub back : Opened s₀ s k i
   pub rows : 3 * i + q ≤ 3 * k + p
-  pub three : length st ≡ length st₀
   pub nums : num st + 2 * q ≤ num st₀ + 2 * p
   pub offs : off st + 64 * q ≤ off st₀ + 64 * p
   pub errs : ers st + 64 * q ≤ ers st₀ + 64 * p
   pub size : length d ≡ length d₀
 
-pub scoping-start : (b : List ℕ) (q : ℕ) (s : List ℕ) (k : ℕ) (st d : List ℕ) (al : ℕ) → (z : ℕ) × Ready b s k q z st × ((ds : Defs) × (t : Term) × DefsRow b ds t q z) → Scoping b q s k st d al q k s st d
+pub scoping-start : (b : List ℕ) (q : ℕ) (s : List ℕ) (k : ℕ) (st : State) (d : List ℕ) (al : ℕ) → (z : ℕ) × Ready b s k q z st × ((ds : Defs) × (t : Term) × DefsRow b ds t q z) → Scoping b q s k st d al q k s st d
 scoping-start b q s k st d al y =
     record {
       goes = λ vw g ds t z r. record { rest = ds; at = r; goes = λ e' st' d' i. i };
@@ -276,7 +273,6 @@ scoping-start b q s k st d al y =
       some = y;
       back = opened-none s k;
       rows = omega arith;
-      three = refl;
       nums = omega arith;
       offs = omega arith;
       errs = omega arith;
@@ -289,7 +285,7 @@ unfolding f_term
 defs-fit b ds_nil t p z r = head-fits b (f_term t) rnil p z r
 defs-fit b (ds_cons x ds) t p z r = head-fits b _ (f_defs ds (rcons (f_term t) rnil)) p z r
 
-module _ (b : List ℕ) (q : ℕ) (s₀ : List ℕ) (k : ℕ) (st₀ d₀ : List ℕ) (al p i : ℕ) (s st d : List ℕ) (o : Scoping b q s₀ k st₀ d₀ al p i s st d) where
+module _ (b : List ℕ) (q : ℕ) (s₀ : List ℕ) (k : ℕ) (st₀ : State) (d₀ : List ℕ) (al p i : ℕ) (s : List ℕ) (st : State) (d : List ℕ) (o : Scoping b q s₀ k st₀ d₀ al p i s st d) where
   pub scoping-fits : (end_of b p ≤ length b) × (end_of b p ≤ o.some.0)
   scoping-fits = defs-fit b o.some.2.0 o.some.2.1 p o.some.0 o.some.2.2
 
@@ -305,7 +301,6 @@ module _ (b : List ℕ) (q : ℕ) (s₀ : List ℕ) (k : ℕ) (st₀ d₀ : List
       let f = scoping-fits in (
         record {
           small = y.small;
-          three = y.three;
           view = y.view;
           seen = y.seen;
           order = omega arith;
@@ -318,7 +313,7 @@ module _ (b : List ℕ) (q : ℕ) (s₀ : List ℕ) (k : ℕ) (st₀ d₀ : List
         (next e).0,
       )
 
-  pub scoping-more : get_or b p 0 ≡ 0x8C → (s₁ st₁ d₁ : List ℕ) → Defined b p s s₁ i st st₁ d d₁ al → (p' : ℕ) → p' ≡ end_of b p → 0 < k → Scoping b q s₀ k st₀ d₀ al p' (i + 1) s₁ st₁ d₁
+  pub scoping-more : get_or b p 0 ≡ 0x8C → (s₁ : List ℕ) (st₁ : State) (d₁ : List ℕ) → Defined b p s s₁ i st st₁ d d₁ al → (p' : ℕ) → p' ≡ end_of b p → 0 < k → Scoping b q s₀ k st₀ d₀ al p' (i + 1) s₁ st₁ d₁
   scoping-more e s₁ st₁ d₁ m p' ep pos =
       subst (λ (x : ℕ). Scoping b q s₀ k st₀ d₀ al x (i + 1) s₁ st₁ d₁) (sym ep)
       (record {
@@ -328,7 +323,6 @@ module _ (b : List ℕ) (q : ℕ) (s₀ : List ℕ) (k : ℕ) (st₀ d₀ : List
         some = (o.some.0, ready, (next e).1);
         back = opened-then s₀ s s₁ k i (i + 1) pos o.back m.back;
         rows = omega (arith, o.rows);
-        three = m.three ∙ o.three;
         nums = omega (arith, m.nums, o.nums);
         offs = omega (arith, m.offs, o.offs);
         errs = omega (arith, m.errs, o.errs);
@@ -341,7 +335,6 @@ module _ (b : List ℕ) (q : ℕ) (s₀ : List ℕ) (k : ℕ) (st₀ d₀ : List
           let f = scoping-fits in
           record {
             small = y.small;
-            three = m.three ∙ y.three;
             view = y.view;
             seen = (m.is y.view y.seen (next e).0.0 (next e).0.1).2;
             order = f.1;
@@ -359,7 +352,7 @@ module _ (b : List ℕ) (q : ℕ) (s₀ : List ℕ) (k : ℕ) (st₀ d₀ : List
           → DefsLeft vw b t z ds (env_of vw b s₀ k) st₀ d₀ al (end_of b p) (i + 1) s₁ st₁ d₁
       left vw g ds t z w =
           on-def-cons b p z
-          (λ rest. ((e' : Env) (st' d' : List ℕ) → DefsIs vw.top (env_of vw b s i) (num st) rest al e' st st' d d' → DefsIs vw.top (env_of vw b s₀ k) (num st₀) ds al e' st₀ st' d₀ d')
+          (λ rest. ((e' : Env) (st' : State) (d' : List ℕ) → DefsIs vw.top (env_of vw b s i) (num st) rest al e' st st' d d' → DefsIs vw.top (env_of vw b s₀ k) (num st₀) ds al e' st₀ st' d₀ d')
           → DefsLeft vw b t z ds (env_of vw b s₀ k) st₀ d₀ al (end_of b p) (i + 1) s₁ st₁ d₁)
           t e
           (λ x us a r f.
@@ -376,7 +369,6 @@ module _ (b : List ℕ) (q : ℕ) (s₀ : List ℕ) (k : ℕ) (st₀ d₀ : List
         at = λ ds t z w. subst (λ (x : ℕ). TermAt b t x × (end_of b x ≡ z)) (sym eq) (ended t z (o.ends ds t z w));
         back = subst (λ (x : ℕ). Opened s₀ s k x) (sym ek) o.back;
         rows = omega (arith, ek, eq, o.rows);
-        three = o.three;
         nums = omega (arith, eq, o.nums);
         offs = omega (arith, eq, o.offs);
         errs = omega (arith, eq, o.errs);
@@ -394,25 +386,25 @@ module _ (b : List ℕ) (q : ℕ) (s₀ : List ℕ) (k : ℕ) (st₀ d₀ : List
 
 -- ---- room for the own record before the definitions
 
-pub reserve-some : (b : List ℕ) (p : ℕ) (s : List ℕ) (o w : ℕ) (st st₁ : List ℕ) → length st ≡ 3 → o ≡ off st → WidthAt b s p w → w ≤ 1048576 → st₁ ≡ set st 1 (o + w) → Reserved b p s o st st₁
-reserve-some b p s o w st st₁ t e f l h =
+pub reserve-some : (b : List ℕ) (p : ℕ) (s : List ℕ) (o w : ℕ) (st st₁ : State) → o ≡ off st → WidthAt b s p w → w ≤ 1048576 → st₁ ≡ with_off st (o + w) → Reserved b p s o st st₁
+reserve-some b p s o w st st₁ e f l h =
     record {
       is = λ vw k g u x n al.
           let W = f vw k g u x n al in
-          h ∙ ap (λ (z : ℕ). set st 1 z) (sym (start-own o w) ∙ ap₂ (λ (y z : ℕ). start_of o y z) e W);
-      few = omega (arith, (set-off st st₁ (o + w) t h).off, e, l);
+          h ∙ ap (λ (z : ℕ). with_off st z) (sym (start-own o w) ∙ ap₂ (λ (y z : ℕ). start_of o y z) e W);
+      few = omega (arith, (set-off st st₁ (o + w) h).off, e, l);
     }
 
-pub reserve-none : (b : List ℕ) (p : ℕ) (s : List ℕ) (o : ℕ) (st : List ℕ) → (o ≡ off st → ⊥) → Reserved b p s o st st
+pub reserve-none : (b : List ℕ) (p : ℕ) (s : List ℕ) (o : ℕ) (st : State) → (o ≡ off st → ⊥) → Reserved b p s o st st
 reserve-none b p s o st e =
     record {
-      is = λ vw k g u x n al. sym (set-get_or st 1 0) ∙ ap (λ (z : ℕ). set st 1 z) (sym (start-other o (off st) (length (rec_bytes 2 (term vw.top u (env_of vw b s k) n al).self)) e));
+      is = λ vw k g u x n al. ap (λ (z : ℕ). with_off st z) (sym (start-other o (off st) (length (rec_bytes 2 (term vw.top u (env_of vw b s k) n al).self)) e));
       few = omega arith;
     }
 
 -- ---- definitions, then a term under them
 
-module _ (b s : List ℕ) (k p o : ℕ) (st st₁ : List ℕ) (tg : get_or b p 0 ≡ 0xA9) (y : Ready b s k (p + 1) (end_of b p) st) (g : Stands b p) (v : Reserved b p s o st st₁) where
+module _ (b s : List ℕ) (k p o : ℕ) (st st₁ : State) (tg : get_or b p 0 ≡ 0xA9) (y : Ready b s k (p + 1) (end_of b p) st) (g : Stands b p) (v : Reserved b p s o st st₁) where
   abbrev Row₀ : Type 0
   Row₀ = (ds : Defs) × (t : Term) × DefsRow b ds t (p + 3) (end_of b p)
 
@@ -426,15 +418,14 @@ module _ (b s : List ℕ) (k p o : ℕ) (st st₁ : List ℕ) (tg : get_or b p 0
   abbrev width : ℕ
   width = length (rec_bytes 2 (term y.view.top g.0 (env_of y.view b s k) 0 0).self)
 
-  stored : Stored st st₁ (num st) (start_of o (off st) width) (ers st)
-  stored = set-off st st₁ (start_of o (off st) width) y.three (v.is y.view k y.seen g.0 g.1 0 0)
+  stored : Stored st₁ (num st) (start_of o (off st) width) (ers st)
+  stored = set-off st st₁ (start_of o (off st) width) (v.is y.view k y.seen g.0 g.1 0 0)
 
   pub def-ready : (z : ℕ) × Ready b s k (p + 3) z st₁ × ((ds : Defs) × (t : Term) × DefsRow b ds t (p + 3) z)
   def-ready = (
     end_of b p,
     record {
       small = y.small;
-      three = stored.same ∙ y.three;
       view = y.view;
       seen = y.seen;
       order = omega arith;
@@ -447,7 +438,7 @@ module _ (b s : List ℕ) (k p o : ℕ) (st st₁ : List ℕ) (tg : get_or b p 0
     under.0,
   )
 
-  module _ (s₁ st₂ d d₁ : List ℕ) (al : ℕ) (r : Run) (m : Scoped b (p + 3) s s₁ k st₁ st₂ d d₁ al r) where
+  module _ (s₁ : List ℕ) (st₂ : State) (d d₁ : List ℕ) (al : ℕ) (r : Run) (m : Scoped b (p + 3) s s₁ k st₁ st₂ d d₁ al r) where
     there : Put (defs y.view.top under.0.0 (env_of y.view b s k) (num st₁) al).more (defs y.view.top under.0.0 (env_of y.view b s k) (num st₁) al).errs st₁ st₂ d d₁
         × (env_of y.view b s₁ r.k ≡ (defs y.view.top under.0.0 (env_of y.view b s k) (num st₁) al).env) × Seen y.view b s₁ r.k
     there = m.is y.view y.seen under.0.0 under.0.1 (end_of b p) under.0.2
@@ -468,7 +459,6 @@ module _ (b s : List ℕ) (k p o : ℕ) (st st₁ : List ℕ) (tg : get_or b p 0
     def_body h = (
       record {
         small = y.small;
-        three = m.three ∙ stored.same ∙ y.three;
         view = y.view;
         seen = there.2;
         order = omega arith;
@@ -486,7 +476,7 @@ module _ (b s : List ℕ) (k p o : ℕ) (st st₁ : List ℕ) (tg : get_or b p 0
         placed (inl l) = inl (omega (arith, l, grown))
         placed (inr e) = inr e
 
-    module _ (s₂ st₃ d₂ : List ℕ) (t : ℕ) (w : Did b r.q s₁ s₂ r.k o st₂ st₃ d₁ d₂ al t) where
+    module _ (s₂ : List ℕ) (st₃ : State) (d₂ : List ℕ) (t : ℕ) (w : Did b r.q s₁ s₂ r.k o st₂ st₃ d₁ d₂ al t) where
       pub def-close : (4 * r.k ≤ length s₂) × (2 ≤ length s₂) × (k ≤ r.k) × ((j : ℕ) → k ≤ j → j < r.k → kind_at s₂ j < 6 → (head_at s₂ j < length s₂) × (head_at s₂ j < 4 * k))
       def-close =
           let u = seen-kept y.view b s₁ s₂ r.k w.paid.kept w.paid.same there.2 in
@@ -524,7 +514,7 @@ module _ (b s : List ℕ) (k p o : ℕ) (st st₁ : List ℕ) (tg : get_or b p 0
                   let W : Whole vw z S.env (num st + length S.more) =
                   subst (λ (i : ℕ). Whole vw z S.env i) j (subst (λ (i : Env). Whole vw z i (num st₂)) D.1 (w.is vw D.2 z c.0, w.wide vw D.2 z c.0)) in
                   record {
-                    own = own-of-def A S.more S.errs o (length (rec_bytes 2 A.self)) st st₁ st₂ st₃ d d₁ d₂ y.three h small₂ refl (v.is vw k n (t_def p ds z) a (num st) al) D.0 W.0.0;
+                    own = own-of-def A S.more S.errs o (length (rec_bytes 2 A.self)) st st₁ st₂ st₃ d d₁ d₂ h small₂ refl (v.is vw k n (t_def p ds z) a (num st) al) D.0 W.0.0;
                     tail = W.0.1;
                     wide =
                         omega (arith, W.1, m.offs, D.0.offs, c.1, ap length (table-append S.more A.more), length-append (table_bytes 2 S.more) (table_bytes 2 A.more));

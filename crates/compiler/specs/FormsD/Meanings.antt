@@ -15,7 +15,7 @@ use Rattle.rules.specs.Returns.{Lone}
 use Rattle.cells.specs.Cells.{View, Seen, env_of, outer, cell}
 use Rattle.rows.specs.Same.{Rows, Order, order-of, based-same, env-same, view-same, goods-same, linked-same, local_same}
 use Rattle.rows.specs.Kept.{below_at, heads-below, fixed-below}
-use Rattle.finds.specs.declared.Found as Hit
+use Rattle.finds.specs.Hits as Hit
 use Rattle.finds.specs.Means.{Readable, FoundIs, Means}
 use Rattle.records.specs.Calls.{Callable, OfCall, lost-kind}
 use Rattle.compiler.specs.Calling.{Meaning}

@@ -1,21 +1,20 @@
 -- `finds::call_width` meets its contract: by what the name means. Assumes nothing.
-use native.Mathlib.Omega.{arith}
-use borrow.Author.Tests.{lt-ltb, le-ltb, ne_eqb}
+use mathlib.Core.Logic.{inl, inr}
 use Rattle.reads.specs.Widths.{call_width}
 use Rattle.finds.proofs.call_width.Goals as goal
 
-pub returns-in-2 : goal.returns-in-2
+pub returns-in-NoFilter : goal.returns-in-NoFilter
 unfolding call_width
-returns-in-2 c = rw c.in-2.is
+returns-in-NoFilter c = elim c.in-NoFilter.is [ inl h ↦ rw h.2 | inr h ↦ rw h.2 ]
 
-pub returns-in-6 : goal.returns-in-6
+pub returns-in-Argument : goal.returns-in-Argument
 unfolding call_width
-returns-in-6 c = rw c.in-6.is
+returns-in-Argument c = rw c.in-Argument.is
 
-pub returns-in-0 : goal.returns-in-0
+pub returns-in-Native : goal.returns-in-Native
 unfolding call_width
-returns-in-0 c = rw (lt-ltb c.args.kind 2 (omega arith))
+returns-in-Native c = rw c.in-Native.is
 
-pub returns-in_default : goal.returns-in_default
+pub returns-in-Parent : goal.returns-in-Parent
 unfolding call_width
-returns-in_default c = rw (le-ltb c.args.kind 2 (omega arith), ne_eqb c.args.kind 2 (λ e. omega arith), ne_eqb c.args.kind 6 (λ e. omega arith))
+returns-in-Parent c = elim c.in-Parent.is [ inl h ↦ rw h.1 | inr g ↦ elim g [ inl h ↦ rw h.1 | inr h ↦ rw h.1 ] ]

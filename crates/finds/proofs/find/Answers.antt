@@ -1,5 +1,11 @@
 -- `finds::find` meets its contract: the bucket of the name has every row in view that matches. Assumes nothing.
 use Rattle.finds.proofs.Seeks.{viewed-low, viewed-cell, viewed-along, find-returns}
+use lib.ListN.{get_or}
+use mathlib.Core.Path.{ap, subst, ◌∙◌}
+use Rattle.rules.specs.Names.{Text}
+use Rattle.reads.specs.Bytes.{word_of}
+use Rattle.finds.specs.Asks.{Seeks}
+use Rattle.finds.specs.Gives.{or_zero}
 use native.Mathlib.Omega.{arith}
 use Rattle.finds.proofs.find.Goals as goal
 
@@ -10,7 +16,15 @@ pub bounds-rows-h : goal.bounds-rows-h
 bounds-rows-h c = let a = c.args in viewed-cell a.tree.now a.rows.now c.requires.0 c.head_of-h.result c.head_of-h.ensures.2
 
 pub seek-requires : goal.seek-requires
-seek-requires c = let a = c.args in (record { class = a.class; arity = 0; few = omega (arith, c.requires.2); short = c.requires.1; word = c.word-w.ensures; is = c.key.ensures.0 }, viewed-along a.tree.now a.rows.now c.requires.0 c.head_of-h.result c.head_of-h.ensures.1 c.head_of-h.ensures.2)
+seek-requires c = let a = c.args in viewed-along a.tree.now a.rows.now c.requires.0 c.head_of-h.result c.head_of-h.ensures.1 c.head_of-h.ensures.2
 
 pub returns : goal.returns
-returns c = let a = c.args in find-returns a.tree.now a.rows.now a.x.now a.class c.requires.2 c.requires.1 c.word-w.result c.key.result c.head_of-h.result c.seek.result c.word-w.ensures c.key.ensures.0 c.head_of-h.ensures.0 c.head_of-h.ensures.1 c.head_of-h.ensures.2 c.seek.ensures
+returns c =
+    let a = c.args in
+    let x = c.new-sought.result in
+    let e = c.new-sought.ensures in
+    let f = subst (λ (y : Text). Seeks a.tree.now a.rows.now (get_or a.rows.now c.head_of-h.result 0) y x.word x.key (or_zero c.seek.result)) e.0 c.seek.ensures.is in
+    record {
+      is = find-returns a.tree.now a.rows.now a.x.now _ c.requires.2 c.requires.1 x.word x.key c.head_of-h.result _ (x.by_word ∙ ap word_of e.0) e.1 c.head_of-h.ensures.0 c.head_of-h.ensures.1 c.head_of-h.ensures.2 f;
+      real = c.seek.ensures.real;
+    }

@@ -1,38 +1,37 @@
 -- `finds::included` meets its contract: from the last number back; a number is five bytes. Assumes nothing.
-use Rattle.finds.proofs.Meanings.{includes-fit, taking-start, taking-low, taking-known, taking-found, taking-more, taking-done}
-use Rattle.finds.proofs.Seeks.{viewed-low}
 use native.Mathlib.Omega.{arith}
+use Rattle.finds.proofs.Meanings.{includes-fit, counted-start, counted-low, counted-known, counted-found, counted-more, counted-done}
+use Rattle.finds.proofs.Seeks.{viewed-low}
+use mathlib.Core.Path.{refl}
+use Rattle.finds.specs.Gives.{gives-some, gives-none, gave-some, gave-none}
 use Rattle.finds.proofs.included.Goals as goal
 
 pub bounds-rows-5 : goal.bounds-rows-5
-bounds-rows-5 c = let a = c.args in omega (arith, viewed-low a.tree.now a.rows.now c.requires.1)
+bounds-rows-5 c = let a = c.args in omega (arith, viewed-low a.tree.now a.rows.now c.requires)
 
-pub end_of-p-requires : goal.end_of-p-requires
-end_of-p-requires c = let a = c.args in includes-fit a.tree.now a.rows.now c.requires.1
+pub end_of-requires : goal.end_of-requires
+end_of-requires c = let a = c.args in includes-fit a.tree.now a.rows.now c.requires
 
-pub loop-p-init : goal.loop-p-init
-loop-p-init c = let a = c.args in taking-start a.tree.now a.rows.now a.x.now a.key c.end_of-p.result c.end_of-p.ensures
-
-pub overflow_add-q : goal.overflow_add-q
-overflow_add-q c = let a = c.args in omega (arith, includes-fit a.tree.now a.rows.now c.requires.1)
-
-pub overflow_sub-p : goal.overflow_sub-p
-overflow_sub-p c = let a = c.args in (taking-low a.tree.now a.rows.now a.x.now a.key c.loop-p.p c.loop-p.invariant c.loop-p-test.true c.requires.1).0
+pub loop-i-init : goal.loop-i-init
+loop-i-init c = let a = c.args in counted-start a.tree.now a.rows.now a.x.now.name.now a.x.now.key c.requires _ c.end_of.ensures
 
 pub number_at-requires : goal.number_at-requires
-number_at-requires c = let a = c.args in (taking-low a.tree.now a.rows.now a.x.now a.key c.loop-p.p c.loop-p.invariant c.loop-p-test.true c.requires.1).1
+number_at-requires c = let a = c.args in counted-low a.tree.now a.rows.now a.x.now.name.now a.x.now.key c.loop-i.i c.loop-i.invariant c.loop-i-test.true c.requires
 
-pub defined-j-requires : goal.defined-j-requires
-defined-j-requires c = let a = c.args in (c.requires.0, taking-known a.tree.now a.rows.now a.x.now a.key c.loop-p.p c.loop-p.invariant c.loop-p-test.true c.requires.1 c.number_at.result c.number_at.ensures.0)
+pub defined-requires : goal.defined-requires
+defined-requires c = let a = c.args in counted-known a.tree.now a.rows.now a.x.now.name.now a.x.now.key c.loop-i.i c.loop-i.invariant c.loop-i-test.true c.requires _ c.number_at.ensures.0
 
-pub returns-then-j-ne0 : goal.returns-then-j-ne0
-returns-then-j-ne0 c = let a = c.args in taking-found a.tree.now a.rows.now a.x.now a.key c.loop-p.p c.loop-p.invariant c.loop-p-test.true c.number_at.result c.defined-j.result c.number_at.ensures.0 c.defined-j.ensures c.if-j-ne0.true
+pub returns-in-Some : goal.returns-in-Some
+returns-in-Some c =
+    let a = c.args in
+    let g = gives-some _ _ _ c.defined.ensures c.in-Some.is in
+    gave-some _ _ (counted-found a.tree.now a.rows.now a.x.now.name.now a.x.now.key c.loop-i.i c.loop-i.invariant c.loop-i-test.true _ _ c.number_at.ensures.0 g.0 g.1) g.1
 
-pub loop-p-smaller : goal.loop-p-smaller
-loop-p-smaller c = omega (arith, c.loop-p-test.true)
-
-pub loop-p-preserved : goal.loop-p-preserved
-loop-p-preserved c = let a = c.args in taking-more a.tree.now a.rows.now a.x.now a.key c.loop-p.p c.loop-p.invariant c.loop-p-test.true c.number_at.result c.defined-j.result c.number_at.ensures.0 c.defined-j.ensures c.if-j-ne0.false
+pub loop-i-preserved : goal.loop-i-preserved
+loop-i-preserved c =
+    let a = c.args in
+    let g = gives-none _ _ c.defined.ensures c.in_default.is in
+    counted-more a.tree.now a.rows.now a.x.now.name.now a.x.now.key c.loop-i.i c.loop-i.invariant c.loop-i-test.true _ 0 c.number_at.ensures.0 g refl
 
 pub returns : goal.returns
-returns c = let a = c.args in taking-done a.tree.now a.rows.now a.x.now a.key c.loop-p.p c.loop-p.invariant c.loop-p-test.false
+returns c = let a = c.args in gave-none _ (counted-done a.tree.now a.rows.now a.x.now.name.now a.x.now.key c.loop-i.i c.loop-i.invariant c.loop-i-test.false)

@@ -1,12 +1,14 @@
 -- `finds::outside` meets its contract: a definition of a module, or else what was found. Assumes nothing.
+use mathlib.Core.Path.{ap, ◌∙◌}
+use borrow.Author.Tests.{ne_eqb}
+use Rattle.std.proofs.Common.{Some}
 use Rattle.finds.specs.Asks.{outside_of}
-use borrow.Author.Tests.{eq-eqb, ne_eqb}
 use Rattle.finds.proofs.outside.Goals as goal
 
-pub returns-then-j-eq0 : goal.returns-then-j-eq0
+pub returns-in-Some : goal.returns-in-Some
 unfolding outside_of
-returns-then-j-eq0 c = rw (eq-eqb c.args.j 0 c.if-j-eq0.true)
+returns-in-Some c = rw (c.in-Some.is, ne_eqb c.in-Some.j 0 (λ e. c.requires (c.in-Some.is ∙ ap Some e)))
 
-pub returns : goal.returns
+pub returns-in-None : goal.returns-in-None
 unfolding outside_of
-returns c = rw (ne_eqb c.args.j 0 c.if-j-eq0.false) c.row.ensures
+returns-in-None c = rw c.in-None.is

@@ -2,25 +2,20 @@
 use Prim.Native.Nat.{◌-◌}
 use native.Mathlib.Omega.{arith}
 use Rattle.finds.proofs.Seeks.{down-start, down-more, down-found, down-done}
+use Rattle.finds.specs.Gives.{gave-some, gave-none}
 use Rattle.finds.proofs.within.Goals as goal
 
 pub loop-j-init : goal.loop-j-init
-loop-j-init c = let a = c.args in down-start a.tree.now a.rows.now a.x.now a.w a.key a.lo a.hi a.hi c.requires.1
-
-pub overflow_sub-j : goal.overflow_sub-j
-overflow_sub-j c = omega (arith, c.loop-j-test.true)
+loop-j-init c = let a = c.args in down-start a.tree.now a.rows.now a.x.now.name.now a.x.now.word a.x.now.key a.lo a.hi a.hi c.requires.1
 
 pub is_row-requires : goal.is_row-requires
-is_row-requires c = let a = c.args in (c.requires.0, c.requires.2 (c.loop-j.j - 1) (omega (arith, c.loop-j-test.true)) (omega (arith, c.loop-j-test.true, c.loop-j.invariant.high)))
+is_row-requires c = let a = c.args in (c.requires.2 (c.loop-j.j - 1) (omega (arith, c.loop-j-test.true)) (omega (arith, c.loop-j-test.true, c.loop-j.invariant.high)))
 
 pub returns-then-is_row : goal.returns-then-is_row
-returns-then-is_row c = let a = c.args in down-found a.tree.now a.rows.now a.x.now a.w a.key a.lo a.hi c.loop-j.j c.loop-j.invariant c.loop-j-test.true c.is_row.result c.is_row.ensures c.if-is_row.true
-
-pub loop-j-smaller : goal.loop-j-smaller
-loop-j-smaller c = omega (arith, c.loop-j-test.true)
+returns-then-is_row c = let a = c.args in gave-some _ _ (down-found a.tree.now a.rows.now a.x.now.name.now a.x.now.word a.x.now.key a.lo a.hi c.loop-j.j c.loop-j.invariant c.loop-j-test.true c.is_row.result c.is_row.ensures c.if-is_row.true) (λ e. omega (arith, c.requires.0, c.loop-j-test.true, c.loop-j.invariant.low))
 
 pub loop-j-preserved : goal.loop-j-preserved
-loop-j-preserved c = let a = c.args in down-more a.tree.now a.rows.now a.x.now a.w a.key a.lo a.hi c.loop-j.j c.loop-j.invariant c.loop-j-test.true c.is_row.result c.is_row.ensures c.if-is_row.false
+loop-j-preserved c = let a = c.args in down-more a.tree.now a.rows.now a.x.now.name.now a.x.now.word a.x.now.key a.lo a.hi c.loop-j.j c.loop-j.invariant c.loop-j-test.true c.is_row.result c.is_row.ensures c.if-is_row.false
 
 pub returns : goal.returns
-returns c = let a = c.args in down-done a.tree.now a.rows.now a.x.now a.w a.key a.lo a.hi c.loop-j.j c.loop-j.invariant c.loop-j-test.false
+returns c = let a = c.args in gave-none _ (down-done a.tree.now a.rows.now a.x.now.name.now a.x.now.word a.x.now.key a.lo a.hi c.loop-j.j c.loop-j.invariant c.loop-j-test.false)

@@ -3,6 +3,3 @@ use Rattle.records.proofs.elses.Given as goal
 
 abbrev pub invariant-loop-j : goal.invariant-loop-j
 invariant-loop-j l = Turning l.rows l.k l.i l.initial.st l.initial.out l.j l.st l.out
-
-abbrev pub decreases-loop-j : goal.decreases-loop-j
-decreases-loop-j l = l.j

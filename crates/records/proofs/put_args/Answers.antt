@@ -2,6 +2,8 @@
 use native.Mathlib.Omega.{arith}
 use Rattle.records.proofs.Calling.{begin, next_fits, again, finish}
 use borrow.Author.Rules.{rules}
+use Rattle.records.proofs.Small.{byte-flag}
+use mathlib.Core.Path.{◌∙◌}
 use Rattle.records.proofs.put_args.Goals as goal
 
 pub put_number-requires : goal.put_number-requires
@@ -40,14 +42,8 @@ end_of-p-requires-in-loop-i c = next_fits _ _ _ _ _ _ _ _ _ _ _ c.loop-i.invaria
 pub overflow_add-x-in-loop-i-2 : goal.overflow_add-x-in-loop-i-2
 overflow_add-x-in-loop-i-2 c = omega (arith, c.loop-i.invariant.at, c.loop-i-test.true, c.requires.room)
 
-pub overflow_add-i : goal.overflow_add-i
-overflow_add-i c = omega (arith, c.loop-i-test.true)
-
-pub loop-i-smaller : goal.loop-i-smaller
-loop-i-smaller c = omega (arith, c.loop-i-test.true)
-
 pub loop-i-preserved : goal.loop-i-preserved
-loop-i-preserved c = rw c.end_of-p-in-loop-i.ensures (again _ _ _ _ _ _ _ _ _ _ _ _ _ _ _ _ c.loop-i.invariant c.loop-i-test.true c.is_var.ensures c.flag.ensures c.put1.ensures c.number.ensures c.put_number-in-loop-i.ensures (search rules))
+loop-i-preserved c = rw c.end_of-p-in-loop-i.ensures (again _ _ _ _ _ _ _ _ _ _ _ _ _ _ _ _ c.loop-i.invariant c.loop-i-test.true c.is_var.ensures (c.from.ensures ∙ byte-flag _) c.put1.ensures c.number.ensures c.put_number-in-loop-i.ensures (search rules))
 
 pub returns : goal.returns
 returns c = finish _ _ _ _ _ _ _ _ _ _ _ _ c.loop-i.invariant (omega (arith, c.loop-i-test.false)) c.put_number.ensures

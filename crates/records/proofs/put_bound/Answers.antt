@@ -2,8 +2,8 @@
 use Rattle.records.proofs.Small.{bound-on, bound-off}
 use Rattle.records.proofs.put_bound.Goals as goal
 
-pub returns-then-on : goal.returns-then-on
-returns-then-on c = bound-on _ _ _ _ _ _ c.if-on.true c.put1.ensures c.put_number.ensures
-
 pub returns : goal.returns
-returns c = bound-off _ _ _ _ _ c.if-on.false c.put1-2.ensures
+returns c = rw c.in-Some.is (bound-on _ _ _ _ _ c.put1-2.ensures c.put_number.ensures)
+
+pub returns-in_default : goal.returns-in_default
+returns-in_default c = rw c.in_default.is (bound-off _ _ _ c.put1.ensures)

@@ -1,16 +1,32 @@
--- `records::put_folding` meets its contract: the kind, and for 2 a number behind it. Assumes nothing.
+-- `records::put_folding` meets its contract: the kind, and for a projection a number behind it. Assumes nothing.
 use native.Mathlib.Omega.{arith}
+use mathlib.Core.Path.{◌≡◌, refl, ap, ◌∙◌}
+use lib.ListN.{set}
+use denote.Enum.Declared.{tag_of}
+use Rattle.std.specs.Prelude.{Some}
+use Rattle.reads.specs.contracts.width.FoldKind.{the_type}
+use Rattle.reads.specs.declared.width.FoldKind.{FoldKind}
+use Rattle.reads.specs.declared.width.FoldKind.TheVariants.{Reduce, Foreach, Projected}
+use Rattle.reads.specs.Kinds.{fold_number, some-kind}
 use Rattle.records.proofs.Small.{fold-two, fold-one}
 use Rattle.records.proofs.put_folding.Goals as goal
 
-pub overflow_add-o : goal.overflow_add-o
-overflow_add-o c = omega (arith, c.requires.1 c.if-kind-eq2.true)
+byte : (k : FoldKind) → tag_of the_type k ≡ fold_number (Some k)
+byte Reduce = refl
+byte Foreach = refl
+byte Projected = refl
 
-pub put_number-requires : goal.put_number-requires
-put_number-requires c = omega (arith, c.requires.1 c.if-kind-eq2.true)
+projected : (k : FoldKind) → fold_number (Some k) ≡ 2 → k ≡ Projected
+projected Reduce e = absurd (omega (arith, e))
+projected Foreach e = absurd (omega (arith, e))
+projected Projected e = refl
 
-pub returns-then-kind-eq2 : goal.returns-then-kind-eq2
-returns-then-kind-eq2 c = fold-two _ _ _ _ _ _ c.if-kind-eq2.true c.put1.ensures c.put_number.ensures
+pub returns-in-Projected : goal.returns-in-Projected
+returns-in-Projected c =
+    let a = c.args in
+    fold-two (fold_number (Some a.kind)) a.n a.o a.out.now _ _ (rw c.in-Projected.is refl) (c.put1.ensures ∙ ap (set a.out.now a.o) (byte a.kind)) c.put_number.ensures
 
-pub returns : goal.returns
-returns c = fold-one _ _ _ _ _ c.if-kind-eq2.false c.requires.0 c.put1.ensures
+pub returns-in_default : goal.returns-in_default
+returns-in_default c =
+    let a = c.args in
+    fold-one (fold_number (Some a.kind)) a.n a.o a.out.now _ (λ e. c.in_default.not-Projected (projected a.kind e)) (some-kind _ a.kind refl) (c.put1.ensures ∙ ap (set a.out.now a.o) (byte a.kind))

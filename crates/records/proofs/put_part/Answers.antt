@@ -1,6 +1,8 @@
 -- `records::put_part` meets its contract: by the tag a range or an index, which a mark may follow. Assumes nothing.
 use native.Mathlib.Omega.{arith}
 use Rattle.records.proofs.Paths.{part-fits, index-safe, index-put}
+use Rattle.records.proofs.Small.{byte-flag}
+use mathlib.Core.Path.{◌∙◌}
 use Rattle.records.proofs.put_part.Goals as goal
 
 pub bounds-tree-q : goal.bounds-tree-q
@@ -19,4 +21,4 @@ pub end_of-requires-2 : goal.end_of-requires-2
 end_of-requires-2 c = part-fits _ c.requires.0.0 _ c.requires.0.1
 
 pub returns : goal.returns
-returns c = index-put _ _ _ _ _ _ _ _ _ _ _ _ c.if-tree-q.false c.end_of.ensures c.end_of-2.ensures c.put1.ensures c.put_number.ensures c.flag.ensures c.put1-2.ensures
+returns c = index-put _ _ _ _ _ _ _ _ _ _ _ _ c.if-tree-q.false c.end_of.ensures c.end_of-2.ensures c.put1.ensures c.put_number.ensures (c.from.ensures ∙ byte-flag _) c.put1-2.ensures

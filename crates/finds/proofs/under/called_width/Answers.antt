@@ -1,6 +1,7 @@
 -- `finds::under::called_width` meets its contract: the definitions before it, or what is in view. Assumes nothing.
 use Prim.Native.Nat.{◌+◌, ◌-◌}
 use Rattle.finds.proofs.Widths.{call-here, call-members, call-most, call-room, under-owned, under-called, part-name, part-short}
+use Rattle.finds.specs.Numbers.{numbers}
 use mathlib.Core.Path.{refl}
 use native.Mathlib.Omega.{arith}
 use borrow.Author.Rules.{rules}
@@ -37,4 +38,4 @@ pub call_width-requires : goal.call_width-requires
 call_width-requires c = let a = c.args in let w = (call-most a.b.now a.q (call-here a.b.now a.q _ c.requires.3 c.requires.2.2) c.end_of-z.result c.end_of.result c.members-a.result c.end_of-z.ensures c.end_of.ensures c.members-a.ensures) in omega (arith, w.0, w.1, c.requires.1)
 
 pub returns : goal.returns
-returns c = let a = c.args in (under-called a.b.now a.rows.now a.p a.q c.requires.3 c.end_of-z.result c.end_of.result c.members-a.result c.end_of-z.ensures c.end_of.ensures c.members-a.ensures _ (part-name a.b.now a.q c.end_of-z.result c.end_of-z.ensures) c.is_own.result c.is_own.ensures c.if-is_own.false _ refl c.call.result c.call.ensures c.call_width.result c.call_width.ensures, call-room a.b.now a.q (call-here a.b.now a.q _ c.requires.3 c.requires.2.2) c.end_of-z.result c.end_of.result c.members-a.result c.call.result.kind c.call_width.result c.end_of-z.ensures c.end_of.ensures c.members-a.ensures c.call_width.ensures)
+returns c = let a = c.args in (under-called a.b.now a.rows.now a.p a.q c.requires.3 c.end_of-z.result c.end_of.result c.members-a.result c.end_of-z.ensures c.end_of.ensures c.members-a.ensures _ (part-name a.b.now a.q c.end_of-z.result c.end_of-z.ensures) c.is_own.result c.is_own.ensures c.if-is_own.false _ refl (numbers c.call.result) c.call.ensures c.call_width.result c.call_width.ensures, call-room a.b.now a.q (call-here a.b.now a.q _ c.requires.3 c.requires.2.2) c.end_of-z.result c.end_of.result c.members-a.result (numbers c.call.result).kind c.call_width.result c.end_of-z.ensures c.end_of.ensures c.members-a.ensures c.call_width.ensures)

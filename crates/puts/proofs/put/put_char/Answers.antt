@@ -10,7 +10,7 @@ use borrow.Author.Rules.{rules}
 use Rattle.puts.proofs.put.put_char.Goals as goal
 
 pub loop-i-init : goal.loop-i-init
-loop-i-init c = (search rules, sym (overlay-none _ _), search rules)
+loop-i-init c = (sym (overlay-none _ _), search rules)
 
 pub overflow_add-o-in-loop-i-2 : goal.overflow_add-o-in-loop-i-2
 overflow_add-o-in-loop-i-2 c = omega (arith, utf8-few c.args.c, c.utf8_len-l.ensures, c.loop-i-test.true)
@@ -19,9 +19,9 @@ pub loop-i-preserved : goal.loop-i-preserved
 loop-i-preserved c =
     let a = c.args in
     let v = c.loop-i.invariant in
-    (search rules, put_byte _ _ _ (utf8 a.c) (a.o + 3) _ _ _ c.utf8_len-l.ensures c.loop-i-test.true v.1 c.put1-in-loop-i.ensures c.utf8_byte.ensures, search rules)
+    (put_byte _ _ _ (utf8 a.c) (a.o + 3) _ _ _ c.utf8_len-l.ensures c.loop-i-test.true v.0 c.put1-in-loop-i.ensures c.utf8_byte.ensures, search rules)
 
 pub returns : goal.returns
 returns c =
     let a = c.args in
-    put_all a.out.now _ _ _ (utf8 a.c) a.o 0x55 _ _ c.put1.ensures c.put_number.ensures c.utf8_len-l.ensures c.loop-i-test.false c.loop-i.invariant.1
+    put_all a.out.now _ _ _ (utf8 a.c) a.o 0x55 _ _ c.put1.ensures c.put_number.ensures c.utf8_len-l.ensures c.loop-i-test.false c.loop-i.invariant.0

@@ -1,44 +1,9 @@
 -- `put::put_two` meets its contract. Assumes nothing.
-use mathlib.Core.Path.{refl, sym}
-use mathlib.Core.List.{[], ◌∷◌}
-use Prim.Native.Nat.{◌+◌}
-use native.Mathlib.Omega.{arith}
-use lib.ListN.{length-set}
 use Rattle.fields.specs.Number.{number}
 use Rattle.fields.specs.Field.{field}
-use Rattle.fields.specs.Room.{overlay-out}
-use Rattle.puts.specs.Runs.{run-then, seven-stored}
+use Rattle.puts.specs.Pairs.{pairs}
 use Rattle.puts.proofs.put.put_two.Goals as goal
 
-pub bounds-out-o-then-o-out : goal.bounds-out-o-then-o-out
-bounds-out-o-then-o-out c = simp length-set (omega arith)
-
-pub bounds-out-o-then-o-out-2 : goal.bounds-out-o-then-o-out-2
-bounds-out-o-then-o-out-2 c = simp length-set (omega arith)
-
-pub bounds-out-o-then-o-out-3 : goal.bounds-out-o-then-o-out-3
-bounds-out-o-then-o-out-3 c = simp length-set (omega arith)
-
-pub bounds-out-o-then-o-out-4 : goal.bounds-out-o-then-o-out-4
-bounds-out-o-then-o-out-4 c = simp length-set (omega arith)
-
-pub bounds-out-o-then-o-out-5 : goal.bounds-out-o-then-o-out-5
-bounds-out-o-then-o-out-5 c = simp length-set (omega arith)
-
-pub bounds-out-o-then-o-out-6 : goal.bounds-out-o-then-o-out-6
-bounds-out-o-then-o-out-6 c = simp length-set (omega arith)
-
-pub returns-then-o-out : goal.returns-then-o-out
-unfolding field number
-returns-then-o-out c = let a = c.args in seven-stored a.out.now a.o a.tag 4 0 _ _ _ _
-
-pub returns-then-o-out-2 : goal.returns-then-o-out-2
-unfolding field number
-returns-then-o-out-2 c =
-    let a = c.args in
-    run-then a.out.now a.o (a.tag ∷ 4 ∷ 0 ∷ number 2 a.a) (number 2 a.b) (a.o + 5) _ _ refl
-    (run-then a.out.now a.o (a.tag ∷ 4 ∷ 0 ∷ []) (number 2 a.a) (a.o + 3) _ _ refl c.put3.ensures c.put_number.ensures)
-    c.put_number-then-o-out-2.ensures
-
-pub returns-else-o-out-2 : goal.returns-else-o-out-2
-returns-else-o-out-2 c = sym (overlay-out _ _ _ c.if-o-out-2.false)
+pub returns : goal.returns
+unfolding field number pairs
+returns c = c.put_numbers.ensures

@@ -1,19 +1,13 @@
 -- `members` meets its contract. Assumes nothing.
 use native.Mathlib.Omega.{arith}
-use Rattle.reads.proofs.Rows.{count-start, count_fits, count-more, count-done}
+use Rattle.reads.specs.Places.{row-over}
+use Rattle.reads.proofs.Rows.{gives_all}
 use Rattle.reads.proofs.bytes.members.Goals as goal
 
-pub loop-p-init : goal.loop-p-init
-loop-p-init c = count-start _ _ _
-
-pub end_of-p-requires : goal.end_of-p-requires
-end_of-p-requires c = omega (arith, count_fits _ _ _ _ _ c.loop-p.invariant c.requires.1 c.loop-p-test.true, c.requires.0)
-
-pub overflow_add-i : goal.overflow_add-i
-overflow_add-i c = omega (arith, c.loop-p.invariant.few, c.requires.0, c.loop-p-test.true)
-
-pub loop-p-preserved : goal.loop-p-preserved
-loop-p-preserved c = count-more _ _ _ _ _ _ c.loop-p.invariant c.loop-p-test.true c.end_of-p.ensures
-
 pub returns : goal.returns
-returns c = count-done _ _ _ _ _ c.loop-p.invariant c.loop-p-test.false
+returns c =
+    let f = c.fields.ensures in
+    let r = c.count.ensures.ran in
+    λ rs h.
+    let k = gives_all c.fields.result r.0 r.1 rs (row-over c.args.b.now c.args.z c.args.q c.fields.result rs (f.0, f.2) f.1 h) in
+    (omega (arith, k.0, r.2), omega (arith, k.1, r.2, f.1, f.2))

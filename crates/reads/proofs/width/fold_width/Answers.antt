@@ -1,26 +1,28 @@
 -- `fold_width` meets its contract. Assumes nothing.
+use Prim.Native.Nat.{ℕ, ◌+◌, ◌*◌, ◌≤◌}
 use native.Mathlib.Omega.{arith}
+use mathlib.Core.Path.{◌≡◌, ap, ◌∙◌}
+use denote.Enum.Bare.{sameb}
+use mir.Val.{bool_byte}
+use Rattle.std.specs.Prelude.{Some}
+use Rattle.reads.specs.contracts.width.FoldKind.{the_type}
+use Rattle.reads.specs.declared.width.FoldKind.{FoldKind}
+use Rattle.reads.specs.declared.width.FoldKind.TheVariants.{Reduce, Foreach, Projected}
+use Rattle.reads.specs.Widths.{fold_width}
+use Rattle.reads.specs.Kinds.{fold_number}
 use Rattle.reads.proofs.Owns.{fold-no, fold-twelve, fold-ten}
-use Rattle.reads.specs.Parts.{pattern-fits}
 use Rattle.reads.proofs.width.fold_width.Goals as goal
 
-pub pattern_width-requires : goal.pattern_width-requires
-pattern_width-requires c = let a = c.args in let b = a.b.now in let s = c.requires in s.0
-
-pub overflow_add-result : goal.overflow_add-result
-overflow_add-result c = let a = c.args in let b = a.b.now in let s = c.requires in omega (arith, s.1, c.pattern_width.ensures.1, pattern-fits b s.0.0 _ s.0.1)
-
-pub pattern_width-requires-in_default : goal.pattern_width-requires-in_default
-pattern_width-requires-in_default c = let a = c.args in let b = a.b.now in let s = c.requires in s.0
-
-pub overflow_add-result-in_default : goal.overflow_add-result-in_default
-overflow_add-result-in_default c = let a = c.args in let b = a.b.now in let s = c.requires in omega (arith, s.1, c.pattern_width-in_default.ensures.1, pattern-fits b s.0.0 _ s.0.1)
-
-pub returns-in-3 : goal.returns-in-3
-returns-in-3 c = let a = c.args in let b = a.b.now in let s = c.requires in (λ x h. fold-no _ c.in-3.is _, omega arith)
-
-pub returns-in-2 : goal.returns-in-2
-returns-in-2 c = let a = c.args in let b = a.b.now in let s = c.requires in (λ x h. fold-twelve _ _ _ c.in-2.is (c.pattern_width.ensures.0 x h), omega (arith, c.pattern_width.ensures.1))
+-- a projection has a number of its own
+numbered : (k : FoldKind) (n : ℕ) → n ≡ bool_byte (sameb the_type k Projected) → (n ≤ 1) × ((r w : ℕ) → r ≡ w → 10 + r + 2 * n ≡ fold_width (fold_number (Some k)) w)
+numbered Reduce n e = (omega (arith, e), λ r w f. omega (arith, e, fold-ten 0 r w (λ g. omega arith) (λ g. omega arith) f))
+numbered Foreach n e = (omega (arith, e), λ r w f. omega (arith, e, fold-ten 1 r w (λ g. omega arith) (λ g. omega arith) f))
+numbered Projected n e = (omega (arith, e), λ r w f. omega (arith, e, fold-twelve 2 r w (omega arith) f))
 
 pub returns-in_default : goal.returns-in_default
-returns-in_default c = let a = c.args in let b = a.b.now in let s = c.requires in (λ x h. fold-ten _ _ _ (λ e. omega arith) (λ e. omega arith) (c.pattern_width-in_default.ensures.0 x h), omega (arith, c.pattern_width-in_default.ensures.1))
+returns-in_default c = rw c.in_default.is (λ x h. fold-no 3 (omega arith) _, omega arith)
+
+pub returns : goal.returns
+returns c =
+    let n = numbered c.in-Some.kind c.from.result (c.from.ensures ∙ ap bool_byte c.eq.ensures) in
+    rw c.in-Some.is (λ x h. n.1 _ _ (c.pattern_width.ensures.0 x h), omega (arith, n.0, c.pattern_width.ensures.1))

@@ -1,35 +1,36 @@
 -- `int_of` meets its contract. Assumes nothing.
 use native.Mathlib.Omega.{arith}
-use mathlib.Core.Path.{refl}
-use Rattle.reads.proofs.Ints.{int-none, int-start, int-below, int-above, int-over, int-next, int-done}
+use mathlib.Core.Logic.{inl, inr}
+use mathlib.Core.Path.{sym}
+use borrow.Author.Tests.{eqb-true}
+use Rattle.std.proofs.lemmas.Bool.{eqb-false}
+use Rattle.reads.proofs.Ints.{int-none, int-below, int-above, int-over, int-high, int-done}
+use Rattle.reads.proofs.width.int_of.Goals.{then-is_empty-via-then-is_empty, then-is_empty-via-else-is_empty+then-v}
 use Rattle.reads.proofs.width.int_of.Goals as goal
 
-pub returns-then-x-eq0 : goal.returns-then-x-eq0
-returns-then-x-eq0 c = int-none _ c.if-x-eq0.true
+pub returns-then-not-is_ascii_digit : goal.returns-then-not-is_ascii_digit
+returns-then-not-is_ascii_digit c =
+    elim c.if-not-is_ascii_digit.ensures.cases [
+      | inl l ↦ λ h. omega (arith, h, int-below _ _ _ c.loop-digit.invariant c.loop-digit-test.true l)
+      | inr l ↦ λ h. omega (arith, h, int-above _ _ _ c.loop-digit.invariant c.loop-digit-test.true l)
+    ]
 
-pub loop-i-init : goal.loop-i-init
-loop-i-init c = int-start c.args.x.now
+pub returns-in_err-checked_mul : goal.returns-in_err-checked_mul
+returns-in_err-checked_mul c =
+    rw c.from_residual.ensures
+    (λ h. omega (arith, h, int-over _ _ _ c.loop-digit.invariant c.loop-digit-test.true (omega (arith, c.in_err-checked_mul.ensures))))
 
-pub returns-then-d-lt48 : goal.returns-then-d-lt48
-returns-then-d-lt48 c = int-below _ _ _ c.loop-i.invariant c.loop-i-test.true c.if-d-lt48.true
+pub returns-in_err-v : goal.returns-in_err-v
+returns-in_err-v c =
+    rw c.from_residual-in_err-v.ensures
+    (λ h. omega (arith, h, int-over _ _ _ c.loop-digit.invariant c.loop-digit-test.true (omega (arith, c.in_err-v.ensures, c.in_ok-checked_mul.ensures.1, c.from.ensures))))
 
-pub returns-then-d-gt57 : goal.returns-then-d-gt57
-returns-then-d-gt57 c = int-above _ _ _ c.loop-i.invariant c.loop-i-test.true c.if-d-gt57.true
-
-pub returns-then-v-gt922337203685477580 : goal.returns-then-v-gt922337203685477580
-returns-then-v-gt922337203685477580 c = int-over _ _ _ c.loop-i.invariant c.loop-i-test.true (omega (arith, c.if-v-gt922337203685477580.true))
-
-pub overflow_mul-v : goal.overflow_mul-v
-overflow_mul-v c = omega (arith, c.if-v-gt922337203685477580.false)
-
-pub overflow_add-v : goal.overflow_add-v
-overflow_add-v c = omega (arith, c.if-v-gt922337203685477580.false, c.if-d-gt57.false)
-
-pub returns-then-v-ge-NO_INT : goal.returns-then-v-ge-NO_INT
-returns-then-v-ge-NO_INT c = int-over _ _ _ c.loop-i.invariant c.loop-i-test.true (omega (arith, c.if-v-ge-NO_INT.true))
-
-pub loop-i-preserved : goal.loop-i-preserved
-loop-i-preserved c = int-next _ _ _ c.loop-i.invariant c.loop-i-test.true _ c.if-d-lt48.false c.if-d-gt57.false refl c.if-v-ge-NO_INT.false
+pub returns-then-is_empty : goal.returns-then-is_empty
+returns-then-is_empty c =
+    elim c.then-is_empty.branch [
+      | then-is_empty-via-then-is_empty w ↦ λ h. omega (arith, h, int-none c.args.x.now (eqb-true _ _ (sym w.if-is_empty.ensures)))
+      | then-is_empty-via-else-is_empty+then-v w ↦ λ h. omega (arith, h, int-high _ _ _ c.loop-digit.invariant (omega (arith, w.if-v.true)))
+    ]
 
 pub returns : goal.returns
-returns c = int-done _ _ _ c.loop-i.invariant c.loop-i-test.false c.if-x-eq0.false
+returns c = let e = int-done _ _ _ c.loop-digit.invariant c.loop-digit-test.false (eqb-false _ _ (sym c.if-is_empty.ensures)) (omega (arith, c.if-v.false)) in (omega (arith, e, c.if-v.false), e)
