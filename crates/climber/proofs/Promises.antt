@@ -3,11 +3,15 @@ use mathlib.Core.Path.{◌≡◌}
 use mathlib.Core.Bool.{true, false}
 use mathlib.Core.List.{List}
 use mathlib.Core.Logic.{◌⊎◌, inl, inr, ⊎_elim}
+use Rattle.std.specs.Prelude.{Result}
 use Prim.Native.Nat.{ℕ, suc, ◌-◌, ◌≤◌, ◌<◌}
 use native.Mathlib.Omega.{arith}
 use Rattle.fields.specs.declared.Answer.{Answer}
 use Rattle.fields.specs.Outcome.{Answers}
-use Rattle.fields.specs.Promises.{one_answer}
+use Rattle.fields.specs.declared.Listing.{Listing}
+use Rattle.fields.specs.declared.Refusal.{Refusal}
+use Rattle.fields.specs.Refusals.{answer_of}
+use Rattle.fields.specs.Promises.{one_answer, one_result}
 use Rattle.climber.specs.Row.{count, tighter, leftmost, rightmost}
 use Rattle.climber.specs.Climbing.{climbing}
 use Rattle.climber.proofs.Rows.{longest-in, longest-end, none, holds}
@@ -35,3 +39,7 @@ left-head row i f = none row i i f
 -- "Any two answers it permits are shown equal"
 pub climb-one-answer : (row d d₁ d₂ : List ℕ) (r₁ r₂ : Answer) → Answers (climbing row) d d₁ r₁ → Answers (climbing row) d d₂ r₂ → (r₁ ≡ r₂) × (d₁ ≡ d₂)
 climb-one-answer row = one_answer (climbing row)
+
+pub climb-one-result : (row d d₁ d₂ : List ℕ) (r₁ r₂ : Result Listing Refusal) → Answers (climbing row) d d₁ (answer_of r₁) → Answers (climbing row) d d₂ (answer_of r₂)
+    → (r₁ ≡ r₂) × (d₁ ≡ d₂)
+climb-one-result row = one_result (climbing row)

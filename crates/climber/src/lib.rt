@@ -82,7 +82,7 @@ fn climb1(row: Row, from: usize, min: usize, out: &mut [u8]) -> usize
     ensures { Climbs row.entry.bytes.now from min result out.old out.new }
 {
     let mut i = from;
-    // Kept: no `for` steps so: a turn passes the operator's own row, whose end the call for it gives.
+    // Kept: a turn steps over the operator's whole row, whose end is known only when the call for that row returns.
     while row.tight(i, min) {
         let least = row.least(i);
         let next = if row.tight(i + 1, least) {

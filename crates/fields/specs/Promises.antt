@@ -1,15 +1,22 @@
 -- What every entry promises by `Answers`, in a reader's words: one answer, nothing changed by a refusal, nothing past the length by a listing.
-use Rattle.std.specs.Prelude.{◌≡◌, refl, Bool, true, false, List, ◌++◌, ℕ, ◌≤◌, ◌<◌, length, drop, leb}
+use Rattle.std.specs.Prelude.{◌≡◌, refl, Bool, true, false, List, ◌++◌, ℕ, ◌≤◌, ◌<◌, length, drop, leb, Result}
 use Rattle.std.proofs.Common.{sym, ◌∙◌, le-leb}
 use Rattle.std.proofs.Math.Seq.{drop-append_seam}
 use Rattle.std.proofs.lemmas.Bool.{lt-leb}
 use Rattle.fields.specs.declared.Answer.{Answer}
+use Rattle.fields.specs.declared.Listing.{Listing}
+use Rattle.fields.specs.declared.Refusal.{Refusal}
+use Rattle.fields.specs.Refusals.{answer_of, answer_of-one}
 use Rattle.fields.specs.Room.{overlay, overlay-front}
 use Rattle.fields.specs.Outcome.{Outcome, listing, refusal, pick, answer, content, Answers}
 
 -- "Any two answers it permits are shown equal": the answer and the room's content alike
 pub one_answer : (o : Outcome) (d d₁ d₂ : List ℕ) (r₁ r₂ : Answer) → Answers o d d₁ r₁ → Answers o d d₂ r₂ → (r₁ ≡ r₂) × (d₁ ≡ d₂)
 one_answer o d d₁ d₂ r₁ r₂ a b = (a.answers ∙ sym b.answers, a.leaves ∙ sym b.leaves)
+
+-- the same of results
+pub one_result : (o : Outcome) (d d₁ d₂ : List ℕ) (r₁ r₂ : Result Listing Refusal) → Answers o d d₁ (answer_of r₁) → Answers o d d₂ (answer_of r₂) → (r₁ ≡ r₂) × (d₁ ≡ d₂)
+one_result o d d₁ d₂ r₁ r₂ a b = (answer_of-one r₁ r₂ (a.answers ∙ sym b.answers), a.leaves ∙ sym b.leaves)
 
 -- "A refusal changes no lent byte, a listing none past its reported length": what stands past the length is what stood there, and a refusal's length is 0
 pub rest-kept : (o : Outcome) (d d' : List ℕ) (r : Answer) → Answers o d d' r → drop r.length d' ≡ drop r.length d
