@@ -74,7 +74,7 @@ impl<'a> Room<'a> {
         requires { self.old.next + 6 < 2 ^ 64 }
         ensures { Erred (expect_of expected) place self.old self.new }
     {
-        let [low, high, ..] = place.to_le_bytes();
+        let [low, high] = fields::number(place);
         match expected {
             Expected::Closer(opener) => self.put(&[expected.tag(), 3, 0, low, high, opener]),
             _ => self.put(&[expected.tag(), 2, 0, low, high]),
