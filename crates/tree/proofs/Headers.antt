@@ -58,6 +58,9 @@ along-next b e s p i q i' n k a h u m c w =
       no = λ l. subst (λ (y : Items). Local b e y n) (sym g) (subst (λ (j : ℕ). Local b e (after (row_at i) (class (get_or b q 0))) j) (sym u) (row-rest b e (row_at i) q h (a.no l)));
     }
 
+pub along-fits : (b : List ℕ) (e s p i q : ℕ) → Along b e s p i q → q < e → e < end_of b q → Local b e (row_at s) p → ⊥
+along-fits b e s p i q a h m l = omega (arith, row_fits b e (row_at i) q h (a.no l))
+
 -- what no row can be has no fields
 dead-none : (b : List ℕ) (e q : ℕ) → (g : Items) → g ≡ dead → Local b e g q → ⊥
 unfolding after ends

@@ -1,5 +1,5 @@
 // Bytes that may be those of a tree, read where no place in them wraps.
-ghost use Rattle.std.specs.Prelude.{◌≡◌, ◌+◌, ◌-◌, ◌*◌, ◌<◌, ◌≤◌, ℕ, List, length, get_or, take, drop, MatchOption};
+ghost use Rattle.std.specs.Prelude.{◌≡◌, ◌+◌, ◌-◌, ◌*◌, ◌<◌, ◌≤◌, ℕ, List, length, get_or, take, drop, leb, MatchOption};
 ghost use Rattle.tree.specs.Rose.{end_of};
 
 use std::marker::Model;
@@ -84,18 +84,11 @@ impl<'a> Input<'a> {
         (p + 3, e)
     }
 
-    // Where the field at p ends, if that is not behind e.
-    pub fn end_by(&self, p: usize, e: usize) -> Option<usize>
+    // Does the field at p end within the first e bytes?
+    pub fn fits(&self, p: usize, e: usize) -> bool
         requires { (p ≤ e) × (e ≤ length self.now) }
-        ensures { MatchOption result (e < end_of self.now p) (λ n. (n ≡ end_of self.now p) × (n ≤ e)) }
+        ensures { result ≡ leb (end_of self.now p) e }
     {
-        if e - p < 3 {
-            return None;
-        }
-        let n = self.end_of(p);
-        if n > e {
-            return None;
-        }
-        Some(n)
+        e - p >= 3 && self.end_of(p) <= e
     }
 }

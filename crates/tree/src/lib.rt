@@ -8,7 +8,6 @@ mod open;
 mod table;
 
 ghost use Rattle.std.specs.Prelude.{◌≡◌, List, [], ℕ, ◌+◌, ◌-◌, ◌/◌, ◌%◌, ◌≤◌, ◌<◌, length, get_or, IfErr};
-ghost use Rattle.fields.specs.Number.{value};
 ghost use Rattle.fields.specs.Refusals.{place_of};
 ghost use Rattle.tree.specs.Leaf.{shape, is_leaf_tag, leaf_ok, text, is_operator};
 ghost use Rattle.tree.specs.Shapes.{number_of, IsShape};
@@ -48,7 +47,9 @@ fn behind(it: Item, j: usize) -> usize
     }
 }
 
-// What may follow a member of class c in the row of items at i, where items may have to be passed over first.
+// What may follow a member of class c in the row of items at i, where items may have to be passed over first. Few members come here: a function of its
+// own leaves the registers to the loop over members.
+#[inline(never)]
 fn skip(i: usize, c: u8) -> Option<usize>
     requires { (i < 106) × (0 < c) }
     ensures { IsDue result (after (row_at i) c) }
@@ -90,28 +91,37 @@ fn row(b: &Input, p: usize, e: usize, s: usize) -> bool
     let mut i = s;
     // Kept: `while`, since the step from field to field is each field's own length, which is not yet known to be right.
     while q < e {
-        let Some(n) = b.end_by(q, e) else {
+        if !b.fits(q, e) {
             return false;
-        };
+        }
         let Some(due) = advance(i, table::class_of(b.byte(q))) else {
             return false;
         };
         i = due;
-        q = n;
+        q = b.end_of(q);
     }
     table::item_at(i).may_end()
 }
 
 // ---- leaves
 
-// Is it UTF-8? A short text is most often ASCII alone.
+// Is it UTF-8?
+#[inline(never)]
+fn is_utf8(x: &[u8]) -> bool
+    ensures { result ≡ text x.now }
+{
+    text::prefix(x) == x.len()
+}
+
+// The same; a short text is most often ASCII alone.
+#[inline(always)]
 fn is_text(x: &[u8]) -> bool
     ensures { result ≡ text x.now }
 {
     if x.len() <= 24 && x.iter().all(|k| k.is_ascii()) {
         return true;
     }
-    text::prefix(x) == x.len()
+    is_utf8(x)
 }
 
 // The operator bytes.
@@ -170,7 +180,10 @@ fn each_header(b: &Input) -> Option<Counts>
     let mut definitions = 0;
     // Kept: `while`, since the step is a header's or a leaf's own length.
     while p < n {
-        let e = b.end_by(p, n)?;
+        if !b.fits(p, n) {
+            return None;
+        }
+        let e = b.end_of(p);
         let k = b.byte(p);
         let s = table::shape_of(k);
         p = content(b, p, e, s)?;

@@ -115,13 +115,14 @@ impl Item {
 }
 
 // The class of a tag.
+// Kept: a class is a number, since it is compared with the items' classes in the table's data; the code names one class alone, `TERM`.
 pub fn class_of(k: u8) -> u8
     ensures { (result ≡ class k) × (0 < result) }
 {
     CLASSES[k as usize]
 }
 
-// The kind of leaf that has this number.
+// The kind of leaf that has this number in the table.
 fn leaf_of(s: u8) -> Leaf
     ensures { result ≡ leaf_of s }
 {
