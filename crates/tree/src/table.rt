@@ -86,7 +86,7 @@ pub enum Mode {
 // An item of a row: eight times its class, four more if the row may end before it, and its mode.
 #[derive(Clone, Copy)]
 pub struct Item {
-    byte: u8,
+    pub byte: u8,
 }
 
 impl Item {
