@@ -1,7 +1,7 @@
 -- What every form's law uses: what stores leave of the state, how far an own record moves the next offset, and a form's promise from its parts.
 -- Assumes nothing.
-use Rattle.std.specs.Prelude.{ℕ, ◌+◌, ◌*◌, ◌≤◌, ◌<◌, ◌≡◌, refl, Bool, true, false, cond, List, [], ◌∷◌, ◌++◌, eqb, length, take}
-use Rattle.std.proofs.Common.{arith, sym, ap, subst, eqb-true}
+use Rattle.std.specs.Prelude.{ℕ, ◌+◌, ◌*◌, ◌≤◌, ◌<◌, ◌≡◌, refl, Bool, true, false, cond, List, [], ◌∷◌, ◌++◌, eqb, length, set, take}
+use Rattle.std.proofs.Common.{arith, sym, ap, subst, ◌∙◌, length-set, eqb-true}
 use Rattle.tree.specs.Rose.{end_of}
 use Rattle.tree.specs.Tree.{Term}
 use Rattle.fields.specs.Number.{number}
@@ -40,6 +40,14 @@ module _ (st st₁ : State) (x : ℕ) where
 
   pub num-num : st₁ ≡ with_num st x → num st₁ ≡ x
   num-num e = ap num e
+
+-- a store into a list keeps the length
+module _ (st st₁ : List ℕ) (x : ℕ) where
+  pub off-len : st₁ ≡ set st 1 x → length st₁ ≡ length st
+  off-len e = ap length e ∙ length-set st 1 x
+
+  pub num-len : st₁ ≡ set st 0 x → length st₁ ≡ length st
+  num-len e = ap length e ∙ length-set st 0 x
 
 -- ---- where the next offset is, an own record of w bytes being due at o
 

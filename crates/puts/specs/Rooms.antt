@@ -1,6 +1,6 @@
 -- How what is put is put together: one after the other, and a term's own record with what it contains. None of it knows the language. Assumes nothing.
-use Rattle.std.specs.Prelude.{ℕ, ◌+◌, ◌≤◌, ◌<◌, ◌≡◌, refl, Bool, true, false, cond, ◌⊎◌, List, [], ◌∷◌, ◌++◌, eqb, length}
-use Rattle.std.proofs.Common.{arith, sym, ap, ap₂, subst, ◌∙◌, inl, inr, append_assoc, append-nil, length-append, eq-eqb, ne_eqb, eqb-true}
+use Rattle.std.specs.Prelude.{ℕ, ◌+◌, ◌≤◌, ◌<◌, ◌≡◌, refl, Bool, true, false, cond, ◌⊎◌, List, [], ◌∷◌, ◌++◌, eqb, length, get_or, set}
+use Rattle.std.proofs.Common.{arith, sym, ap, ap₂, subst, ◌∙◌, inl, inr, append_assoc, append-nil, length-set, length-append, get_or-set_other, eq-eqb, ne_eqb, eqb-true}
 use Rattle.std.proofs.lemmas.Bool.{eqb-false}
 use Rattle.fields.specs.Field.{field, length-field}
 use Rattle.fields.specs.Room.{overlay, overlay-none, overlay-append, overlay-before, overlay-out, length-overlay}
@@ -256,6 +256,26 @@ late_of q st st₁ st₂ d d₁ l p n₂ o₂ e₂ =
     bytes = table-append q.more (q.self ∷ []) ∙ ap (λ x. table_bytes 2 q.more ++ x) (append-nil (rec_bytes 2 q.self))
 
 -- ---- the same, as the contracts of the state's functions give it: each stores into the state
+
+module _ (st : State) where
+  -- a store of the next offset
+  pub off-off : (st₁ : State) (x : ℕ) → st₁ ≡ with_off st x → off st₁ ≡ x
+  off-off st₁ x e = ap off e
+
+  -- a store of the next number
+  pub num-num : (st₁ : State) (x : ℕ) → st₁ ≡ with_num st x → num st₁ ≡ x
+  num-num st₁ x e = ap num e
+
+  -- a store of the errors' offset
+  pub ers-ers : (st₁ : State) (x : ℕ) → st₁ ≡ with_ers st x → ers st₁ ≡ x
+  ers-ers st₁ x e = ap ers e
+
+-- a store into a list keeps the others, and the length
+pub kept : (i j : ℕ) (st st₁ : List ℕ) (x : ℕ) → (j ≡ i → ⊥) → st₁ ≡ set st i x → get_or st₁ j 0 ≡ get_or st j 0
+kept i j st st₁ x h e = ap (λ l. get_or l j 0) e ∙ get_or-set_other st i j x 0 h
+
+pub long : (i : ℕ) (st st₁ : List ℕ) (x : ℕ) → st₁ ≡ set st i x → length st₁ ≡ length st
+long i st st₁ x e = ap length e ∙ length-set st i x
 
 -- a record with the next number
 pub put_one : (r : Rec) (w x : ℕ) (st st₁ : State) (d d₁ : List ℕ)

@@ -161,6 +161,10 @@ late-next : (x w : ℕ) → next_of late x w ≡ x + w
 unfolding next_of
 late-next x w = refl
 
+-- a state after two of its numbers are stored
+pub two-stored : (st : State) (x y : ℕ) → (num (with_off (with_num st x) y) ≡ x) × (off (with_off (with_num st x) y) ≡ y) × (ers (with_off (with_num st x) y) ≡ ers st)
+two-stored st x y = (refl, refl, refl)
+
 pub else-put : (q : Out) (ps : List Pair) (p : ℕ) (st st₁ st₂ : State) (d d₁ d₂ : List ℕ) (r : ℕ)
     → off st < late → Own q late st st₁ d d₁ → Elsed ps st₁ st₂ d₁ d₂ r
     → Put (q.more ++ (q.self ∷ elses_of p ps (num st₁))) q.errs st st₂ d d₂
