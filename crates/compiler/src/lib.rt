@@ -40,7 +40,7 @@ use reads::width::FoldKind;
 use reads::{bytes, width};
 
 // What is written as the compiler goes: the rows, how far it is, and the room.
-// Kept: the tree, which is only read, stands beside them: as a field, that a call leaves it as it was would be a clause of each method and a step in each proof behind a call (d).
+// Kept: the tree, which is only read, stands beside them: as a field, that a call leaves it as it was would be a clause of each method and a step in each proof behind a call.
 #[derive(Drop)]
 pub struct Compiler<'r, 'o> {
     pub rows: &'r mut [u64],
@@ -252,7 +252,7 @@ impl Compiler<'_, '_> {
         ensures same { Same self.old self.new }
         ensures is { Paired tree.now q z self.old.rows.now self.new.rows.now k self.old.st self.new.st self.old.out.now self.new.out.now allowed result }
     {
-        // Kept: the place moves in a loop, which ends at another tag, and the place where it ends is given back (d).
+        // Kept: the place moves in a loop, which ends at another tag, and the place where it ends is given back.
         let mut p = q;
         let mut i = k;
         let mut t = 0;
@@ -896,7 +896,7 @@ impl Compiler<'_, '_> {
         ensures same { Same self.old self.new }
         ensures is { Scoped tree.now q self.old.rows.now self.new.rows.now k self.old.st self.new.st self.old.out.now self.new.out.now allowed result }
     {
-        // Kept: the place moves in a loop, which ends at another tag, and the place where it ends is given back (d).
+        // Kept: the place moves in a loop, which ends at another tag, and the place where it ends is given back.
         let mut p = q;
         let mut i = k;
         while tree[p] == 0x8C {

@@ -5,7 +5,7 @@ ghost use Rattle.std.specs.Prelude.{◌≡◌, ◌+◌, ◌<◌, ◌^◌};
 ghost use Rattle.puts.specs.State.{start_of, spot_of, next_of};
 
 // The own record of a term stands at o. Where o is the next offset, the records of its members follow it; where o is LATE, they stand before it.
-// Kept: a number past every offset, as what the rules' proofs say of a place is said of one number: over an Option, each step that places a record would carry that over first (d).
+// Kept: a number past every offset, as what the rules' proofs say of a place is said of one number: over an Option, each step that places a record would carry that over first.
 pub const LATE: usize = 0x4000_0000_0000_0000;
 
 #[derive(Clone, Copy)]
