@@ -8,6 +8,8 @@
 // out, and rows of other names hardly ever. Who brings rows into view takes them out of it again, and puts back the bindings and definitions: of
 // the cells below row k, heads and all, a callee leaves each as it was (`take (4 * k) s' ≡ take (4 * k) s`).
 //
+// Kept: the memory is one slice that a caller lends, and a callee's rows are the part behind `4 * k` of it: so a row is its index, and a cell a number.
+//
 //   number 0: the word of the name
 //   number 1: class + 4 * length of the name + 2^18 * arity + 2^34 * number + 2^50 * level
 //   number 2: next row of the bucket + 2^14 * head + 2^30 * place of the name's field + 2^45 * kind + 2^48 * bindings before it
@@ -42,6 +44,10 @@ pub const MODULES: usize = 6;
 pub const HEADS: usize = 8;
 
 // What each number in a row's cells is a multiple of there.
+const LENGTH: u64 = 1 << 2;
+
+const ARITY: u64 = 1 << 18;
+
 const NUMBER: u64 = 1 << 34;
 
 const LEVEL: u64 = 1 << 50;
@@ -93,7 +99,7 @@ pub fn key(class: Class, len: usize, a: usize) -> u64
     requires { (len < 65536) × (a < 65536) }
     ensures { (result ≡ key_of (class_number class) len a) × (result < 17179869184) }
 {
-    class as u64 + 4 * (len as u64) + 262144 * (a as u64)
+    class as u64 + LENGTH * (len as u64) + ARITY * (a as u64)
 }
 
 // The cell of the head for a name.

@@ -30,6 +30,7 @@ fn body_of(b: &[u8], p: usize) -> usize
     requires { (t : Term) × TermAt b.now t p }
     ensures { ((t : Term) → TermAt b.now t p → TermAt b.now (body_of t) result) × (p ≤ result) × (end_of b.now result ≤ end_of b.now p) }
 {
+    // Kept: what ends the walk is the tag at its place, and no count or end of fields.
     let mut q = p;
     while b[q] == 0xA9 {
         q = bytes::after_defs(b, q + 3);
@@ -42,10 +43,7 @@ fn is_def(b: &[u8], p: usize, x: &[u8], a: usize) -> bool
     requires { (d : Def) × DefAt b.now d p }
     ensures { (d : Def) → DefAt b.now d p → result ≡ def_fits d x.now a }
 {
-    if is_text(b, p + 3, x) {
-        return bytes::params(b, end_of(b, p + 3)).a == a;
-    }
-    false
+    is_text(b, p + 3, x) && bytes::params(b, end_of(b, p + 3)).a == a
 }
 
 // Whether a definition from q on is such a one.
@@ -53,6 +51,7 @@ fn declares(b: &[u8], q: usize, x: &[u8], a: usize) -> bool
     requires { (ds : Defs) × (t : Term) × (z : ℕ) × Row b.now (f_defs ds (rcons (f_term t) rnil)) q z × (z ≤ length b.now) }
     ensures { (ds : Defs) (t : Term) (z : ℕ) → Row b.now (f_defs ds (rcons (f_term t) rnil)) q z → result ≡ declared_by ds x.now a }
 {
+    // Kept: the tag of the term behind them ends the definitions, and no end of fields.
     let mut p = q;
     while b[p] == 0x8C {
         if is_def(b, p, x, a) {
@@ -68,6 +67,7 @@ fn defines(b: &[u8], p: usize, x: &[u8], a: usize) -> bool
     requires { (t : Term) × TermAt b.now t p }
     ensures { Defines b.now p x.now a result }
 {
+    // Kept: as in body_of, the tag at its place ends the walk.
     let mut q = p;
     while b[q] == 0xA9 {
         if declares(b, q + 3, x, a) {

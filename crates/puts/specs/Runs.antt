@@ -1,9 +1,9 @@
 -- Runs of bytes that are put one after the other, and bytes that are stored one by one: both are one run. Assumes nothing.
 use Prim.Native.Nat.{ℕ, suc, ◌+◌, ◌≤◌, ◌<◌}
 use native.Mathlib.Omega.{arith}
-use Rattle.std.proofs.Common.{add-one, sym, ap, ◌∙◌, length-set, take-suc, take_all, length-take-le}
+use Rattle.std.proofs.Common.{add-one, sym, ap, ◌∙◌, take-suc, take_all, length-take-le}
 use Rattle.std.specs.Prelude.{◌≡◌, refl, Bool, true, false, cond, List, [], ◌∷◌, ◌++◌, length, get_or, set, take, ltb}
-use Rattle.fields.specs.Room.{overlay, overlay-one, overlay-cons, overlay-append, overlay-out}
+use Rattle.fields.specs.Room.{overlay, overlay-one, overlay-append}
 use Rattle.text.specs.Utf8.{is_scalar, one, two, three, four, encode, utf8}
 
 -- the bytes of a character are at most four
@@ -31,10 +31,6 @@ module _ (d : List ℕ) (o : ℕ) where
   pub then-byte : (a : List ℕ) (x : ℕ) (o₁ : ℕ) (d₁ d₂ : List ℕ) → o₁ ≡ o + length a → d₁ ≡ overlay d o a → d₂ ≡ set d₁ o₁ x → d₂ ≡ overlay d o (a ++ (x ∷ []))
   then-byte a x o₁ d₁ d₂ e f g = run-then a (x ∷ []) o₁ d₁ d₂ e f (g ∙ sym (overlay-one d₁ o₁ x))
 
-  -- there is room for the first of two bytes at most
-  pub first-of-two : (x y : ℕ) (d₁ : List ℕ) → length d < o + 2 → d₁ ≡ set d o x → d₁ ≡ overlay d o (x ∷ y ∷ [])
-  first-of-two x y d₁ h e = e ∙ sym (overlay-cons d o x (y ∷ []) ∙ overlay-out (set d o x) (suc o) (y ∷ []) (omega (arith, h, length-set d o x)))
-
   -- a copy, byte by byte: one byte more
   pub one_more : (s : List ℕ) (i : ℕ) (l l₁ : List ℕ) → i < length s → l ≡ overlay d o (take i s) → l₁ ≡ set l (o + i) (get_or s i 0) → l₁ ≡ overlay d o (take (i + 1) s)
   one_more s i l l₁ h e f =
@@ -54,35 +50,3 @@ module _ (d : List ℕ) (o : ℕ) where
       let e₁ : o + 1 ≡ suc o = omega arith in
       let e₂ : o + 2 ≡ suc (suc o) = omega arith in
       rw (e₁, e₂)
-
-  pub five-stored : (a b c x y : ℕ) → set (set (set (set (set d o a) (o + 1) b) (o + 2) c) (o + 3) x) (o + 4) y ≡ overlay d o (a ∷ b ∷ c ∷ x ∷ y ∷ [])
-  unfolding overlay
-  five-stored a b c x y =
-      let e₁ : o + 1 ≡ suc o = omega arith in
-      let e₂ : o + 2 ≡ suc (suc o) = omega arith in
-      let e₃ : o + 3 ≡ suc (suc (suc o)) = omega arith in
-      let e₄ : o + 4 ≡ suc (suc (suc (suc o))) = omega arith in
-      rw (e₁, e₂, e₃, e₄)
-
-  pub seven-stored : (a b c x y z u : ℕ) → set (set (set (set (set (set (set d o a) (o + 1) b) (o + 2) c) (o + 3) x) (o + 4) y) (o + 5) z) (o + 6) u ≡ overlay d o (a ∷ b ∷ c ∷ x ∷ y ∷ z ∷ u ∷ [])
-  unfolding overlay
-  seven-stored a b c x y z u =
-      let e₁ : o + 1 ≡ suc o = omega arith in
-      let e₂ : o + 2 ≡ suc (suc o) = omega arith in
-      let e₃ : o + 3 ≡ suc (suc (suc o)) = omega arith in
-      let e₄ : o + 4 ≡ suc (suc (suc (suc o))) = omega arith in
-      let e₅ : o + 5 ≡ suc (suc (suc (suc (suc o)))) = omega arith in
-      let e₆ : o + 6 ≡ suc (suc (suc (suc (suc (suc o))))) = omega arith in
-      rw (e₁, e₂, e₃, e₄, e₅, e₆)
-
-  pub eight-stored : (a b c x y z u v : ℕ) → set (set (set (set (set (set (set (set d o a) (o + 1) b) (o + 2) c) (o + 3) x) (o + 4) y) (o + 5) z) (o + 6) u) (o + 7) v ≡ overlay d o (a ∷ b ∷ c ∷ x ∷ y ∷ z ∷ u ∷ v ∷ [])
-  unfolding overlay
-  eight-stored a b c x y z u v =
-      let e₁ : o + 1 ≡ suc o = omega arith in
-      let e₂ : o + 2 ≡ suc (suc o) = omega arith in
-      let e₃ : o + 3 ≡ suc (suc (suc o)) = omega arith in
-      let e₄ : o + 4 ≡ suc (suc (suc (suc o))) = omega arith in
-      let e₅ : o + 5 ≡ suc (suc (suc (suc (suc o)))) = omega arith in
-      let e₆ : o + 6 ≡ suc (suc (suc (suc (suc (suc o))))) = omega arith in
-      let e₇ : o + 7 ≡ suc (suc (suc (suc (suc (suc (suc o)))))) = omega arith in
-      rw (e₁, e₂, e₃, e₄, e₅, e₆, e₇)

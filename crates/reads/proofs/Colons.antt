@@ -30,9 +30,6 @@ first_found (a ∷ x) (suc k) l f e = rw (f 0 (omega arith)) (ap suc (first_foun
 abbrev pub Without : List ℕ → ℕ → Type 0
 Without x i = (j : ℕ) → suc j < i → pair x j ≡ false
 
-pub without-start : (x : List ℕ) → Without x 1
-without-start x j l = absurd (omega arith)
-
 past_end : (x : List ℕ) (j : ℕ) → length x ≤ suc j → pair x j ≡ false
 past_end x j l = rw (get_or-eq_default x 0 l) (none (eqb (get_or x j 0) 0x3A))
   where

@@ -3,7 +3,6 @@ use mathlib.Core.Path.{◌≡◌, refl, ap, ◌∙◌}
 use mathlib.Core.Bool.{Bool, true, false, ◌&&◌}
 use mathlib.Core.List.{List, [], ◌∷◌}
 use Prim.Native.Nat.{ℕ, zero, suc, ◌+◌, ◌-◌, ◌*◌, ◌^◌, ◌≤◌, ◌<◌}
-use native.Mathlib.Numerals.{add-one}
 use native.Mathlib.Omega.{arith}
 use lib.ListN.{length, get_or, drop, drop_of_length-le}
 use lib.Seq.{drop-cons}
@@ -40,9 +39,6 @@ pub record Reading (x : List ℕ) (v i : ℕ) : Type 0 where
   pub value : decimal 0 x ≡ decimal v (drop i x)
   pub within : i ≤ length x
 
-pub int-start : (x : List ℕ) → Reading x 0 0
-int-start x = record { digits = refl; value = refl; within = omega arith }
-
 module _ (x : List ℕ) (v i : ℕ) (g : Reading x v i) (l : i < length x) where
   pub int-below : get_or x i 0 < 48 → 2 ^ 63 ≡ int_of x
   int-below h = int-other x (g.digits ∙ ap are_digits (drop-cons x i 0 l) ∙ rw (lt-leb 0x30 (get_or x i 0) h))
@@ -55,13 +51,6 @@ module _ (x : List ℕ) (v i : ℕ) (g : Reading x v i) (l : i < length x) where
 
   pub int-over : 2 ^ 63 ≤ 10 * v + (get_or x i 0 - 48) → 2 ^ 63 ≡ int_of x
   int-over h = int-big x (omega (arith, next-value, decimal-ge (drop (suc i) x) (10 * v + (get_or x i 0 - 48))))
-
-  pub int-next : (w : ℕ) → 48 ≤ get_or x i 0 → get_or x i 0 ≤ 57 → w ≡ v * 10 + (get_or x i 0 - 48) → Reading x w (i + 1)
-  int-next w h k e = record {
-    digits = rw (add-one i) (g.digits ∙ ap are_digits (drop-cons x i 0 l) ∙ rw (le-leb 0x30 (get_or x i 0) h, le-leb (get_or x i 0) 0x39 k));
-    value = rw (add-one i) (next-value ∙ ap (λ (n : ℕ). decimal n (drop (suc i) x)) (omega (arith, e)));
-    within = omega arith;
-  }
 
 pub int-high : (x : List ℕ) (v i : ℕ) → Reading x v i → 2 ^ 63 ≤ v → 2 ^ 63 ≡ int_of x
 int-high x v i g h = int-big x (omega (arith, g.value, h, decimal-ge (drop i x) v))

@@ -127,17 +127,11 @@ unfolding parts_width
 parts-nil = refl
 
 module _ (b : List ℕ) (q z : ℕ) where
-  pub add_start : Adding b q z q 0
-  add_start = record { goes = λ xs h. (xs, h, omega arith); room = omega arith }
-
   -- a part stands at p, for some stand at q
   pub add-part : (p w : ℕ) → Adding b q z p w → (xs : Parts) → Row b (f_parts xs rnil) q z → p < z → (x : Part) × Row b (rcons (f_part x) rnil) p (end_of b p)
   add-part p w g xs h l =
       let s = g.goes xs h in
       on-parts-cons b p z (λ (xs : Parts). (x : Part) × Row b (rcons (f_part x) rnil) p (end_of b p)) l (λ x ys r k t. (x, r)) s.0 s.1
-
-  pub add-fits : (p w : ℕ) → Adding b q z p w → (xs : Parts) → Row b (f_parts xs rnil) q z → p < z → end_of b p ≤ z
-  add-fits p w g xs h l = let s = g.goes xs h in row_next b (f_parts s.0 rnil) p z s.1 l
 
   pub add-more : (p w r u : ℕ) → Adding b q z p w → p < z → u ≡ end_of b p
       → ((x : Part) → Row b (rcons (f_part x) rnil) p (end_of b p) → r ≡ part_width x) → r + 2 * p ≤ 2 * end_of b p → Adding b q z u (w + r)

@@ -1,14 +1,16 @@
 -- Fields one after the other, as the code passes them: how many there are, and parameters or definitions that a term follows. Assumes nothing.
 use mathlib.Core.Path.{◌≡◌, refl, sym, ap, subst, ◌∙◌}
 use mathlib.Core.List.{List, [], ◌∷◌}
-use Prim.Native.Nat.{ℕ, suc, ◌+◌, ◌-◌, ◌*◌, ◌≤◌, ◌<◌}
+use Prim.Native.Nat.{ℕ, zero, suc, ◌+◌, ◌-◌, ◌*◌, ◌≤◌, ◌<◌}
 use native.Mathlib.Omega.{arith}
 use lib.ListN.{length, get_or}
-use Rattle.tree.specs.Rose.{Rose, Roses, rnil, rcons, end_of, tag_of, At, Row, tagged, row-le}
+use Rattle.tree.specs.Rose.{Roses, rnil, rcons, end_of, tag_of, At, Row, row-le}
 use Rattle.tree.specs.Tree.{Name, Term, Defs, Def, ds_nil, ds_cons, def}
 use Rattle.tree.specs.Tree.{t_id, t_recurse, t_arr, t_neg, t_label, t_break, t_if_then_else, t_var, t_call, t_def, t_num, t_try_catch, t_fold, t_pipe, t_bin_op, t_path, t_str, t_obj}
 use Rattle.tree.specs.Form.{f_name, f_names, f_term, f_defs, f_def}
 use Rattle.tree.proofs.Form.{term-place}
+use Rattle.reads.specs.Parts.{row-tag, row_fits, row-rest}
+use Rattle.reads.specs.Tagged.{Tagged}
 use Rattle.reads.specs.Bytes.{many, after, TermAt}
 use Rattle.reads.specs.Places.{Stand, GivesField, turned, row-over}
 use Rattle.std.specs.Iterator.{Drains}
@@ -76,106 +78,80 @@ term-tag (t_path p t ps) = omega arith
 term-tag (t_str p f ps) = omega arith
 term-tag (t_obj p es) = omega arith
 
--- the byte at p is the tag of the first field of a row from p on
-pub row-tag : (b : List ℕ) (r : Rose) (rs : Roses) (p z : ℕ) → Row b (rcons r rs) p z → get_or b p 0 ≡ tag_of r
-unfolding At
-row-tag b r rs p z h = subst (λ (n : ℕ). get_or b n 0 ≡ tag_of r) h.0 (tagged b r h.1)
+-- ---- fields of one tag
 
-pub row_fits : (b : List ℕ) (r : Rose) (rs : Roses) (p z : ℕ) → Row b (rcons r rs) p z → end_of b p ≤ z
-unfolding At
-row_fits b r rs p z h = row-le b rs (end_of b p) z h.2
+tagged-within : (b : List ℕ) (k n q : ℕ) → Tagged b k n q → q < length b
+unfolding Tagged
+tagged-within b k zero q h = h.0
+tagged-within b k (suc n) q h = omega (arith, h.1)
 
--- ---- parameters and the term after them
+tagged-step : (b : List ℕ) (k n q : ℕ) → Tagged b k n q → get_or b q 0 ≡ k
+    → (m : ℕ) × Tagged b k m (end_of b q) × (end_of b q ≤ length b) × (n ≡ suc m) × (after b n q ≡ after b m (end_of b q))
+unfolding Tagged after
+tagged-step b k zero q h e = absurd (h.1 e)
+tagged-step b k (suc n) q h e = (n, h.2, h.1, refl, refl)
 
-abbrev pub ParamsAt : List ℕ → List Name → Term → ℕ → ℕ → Type 0
-ParamsAt b xs t p z = Row b (f_names 0x91 xs (rcons (f_term t) rnil)) p z
+tagged-none : (b : List ℕ) (k n q : ℕ) → Tagged b k n q → (get_or b q 0 ≡ k → ⊥) → (n ≡ 0) × (after b n q ≡ q)
+unfolding Tagged after
+tagged-none b k zero q h e = (refl, refl)
+tagged-none b k (suc n) q h e = absurd (e h.0)
 
-params_fit : (b : List ℕ) (xs : List Name) (t : Term) (p z : ℕ) → ParamsAt b xs t p z → end_of b p ≤ z
-unfolding f_names
-params_fit b [] t p z h = row_fits b (f_term t) rnil p z h
-params_fit b (x ∷ xs) t p z h = row_fits b (f_name 0x91 x) (f_names 0x91 xs (rcons (f_term t) rnil)) p z h
-
-params_step : (b : List ℕ) (xs : List Name) (t : Term) (p z : ℕ) → ParamsAt b xs t p z → get_or b p 0 ≡ 0x91
-    → (ys : List Name) × ParamsAt b ys t (end_of b p) z × (length xs ≡ suc (length ys)) × (after b (length xs) p ≡ after b (length ys) (end_of b p))
-unfolding f_names At after
-params_step b [] t p z h e = absurd (omega (arith, row-tag b (f_term t) rnil p z h, term-tag t))
-params_step b (x ∷ xs) t p z h e = (xs, h.2, refl, refl)
-
-params_none : (b : List ℕ) (xs : List Name) (t : Term) (p z : ℕ) → ParamsAt b xs t p z → (get_or b p 0 ≡ 0x91 → ⊥) → (length xs ≡ 0) × (after b (length xs) p ≡ p)
-unfolding f_names At after
-params_none b [] t p z h n = (refl, refl)
-params_none b (x ∷ xs) t p z h n = absurd (n (row-tag b (f_name 0x91 x) (f_names 0x91 xs (rcons (f_term t) rnil)) p z h))
-
--- i parameters passed from q on: p is reached
-pub record Passing (b : List ℕ) (q i p : ℕ) : Type 0 where
-  pub goes : (xs : List Name) (t : Term) (z : ℕ) → ParamsAt b xs t q z → (ys : List Name) × ParamsAt b ys t p z × (length xs ≡ i + length ys) × (after b (length xs) q ≡ after b (length ys) p)
+-- i of them passed from q on: p is reached
+pub record Passing (b : List ℕ) (k q i p : ℕ) : Type 0 where
+  pub goes : (n : ℕ) → Tagged b k n q → (m : ℕ) × Tagged b k m p × (n ≡ i + m) × (after b n q ≡ after b m p)
   pub few : i ≤ p
 
-module _ (b : List ℕ) (q : ℕ) where
-  pub pass-start : Passing b q 0 q
-  pass-start = record { goes = λ xs t z h. (xs, h, omega arith, refl); few = omega arith }
+module _ (b : List ℕ) (k q : ℕ) where
+  pub pass-start : Passing b k q 0 q
+  pass-start = record { goes = λ n h. (n, h, omega arith, refl); few = omega arith }
 
-  pub pass_fits : (i p : ℕ) → Passing b q i p → (xs : List Name) (t : Term) (z : ℕ) → ParamsAt b xs t q z → z ≤ length b → end_of b p ≤ length b
-  pass_fits i p g xs t z h l = let s = g.goes xs t z h in omega (arith, params_fit b s.0 t p z s.1)
+  pub pass-within : (i p : ℕ) → Passing b k q i p → (n : ℕ) × Tagged b k n q → p < length b
+  pass-within i p g h = let s = g.goes h.0 h.1 in tagged-within b k s.0 p s.1
 
-  pub pass-more : (i p r : ℕ) → Passing b q i p → get_or b p 0 ≡ 0x91 → r ≡ end_of b p → Passing b q (i + 1) r
+  pub pass_fits : (i p : ℕ) → Passing b k q i p → (n : ℕ) × Tagged b k n q → get_or b p 0 ≡ k → end_of b p ≤ length b
+  pass_fits i p g h e = let s = g.goes h.0 h.1 in (tagged-step b k s.0 p s.1 e).2
+
+  pub pass-more : (i p r : ℕ) → Passing b k q i p → get_or b p 0 ≡ k → r ≡ end_of b p → Passing b k q (i + 1) r
   pass-more i p r g e f = record {
-    goes = λ xs t z h.
-        let s = g.goes xs t z h in
-        let k = params_step b s.0 t p z s.1 e in
-        (k.0, subst (λ (n : ℕ). ParamsAt b k.0 t n z) (sym f) k.1, omega (arith, s.2, k.2), s.3 ∙ k.3 ∙ ap (λ (n : ℕ). after b (length k.0) n) (sym f));
-    few = omega (arith, g.few);
+    goes = λ n h.
+        let s = g.goes n h in
+        let t = tagged-step b k s.0 p s.1 e in
+        (t.0, subst (λ (x : ℕ). Tagged b k t.0 x) (sym f) t.1, omega (arith, s.2, t.3), s.3 ∙ t.4 ∙ ap (λ (x : ℕ). after b t.0 x) (sym f));
+    few = omega (arith, g.few, f);
   }
 
-  pub pass-done : (i p : ℕ) → Passing b q i p → (get_or b p 0 ≡ 0x91 → ⊥) → (xs : List Name) (t : Term) (z : ℕ) → ParamsAt b xs t q z → (i ≡ length xs) × (p ≡ after b (length xs) q)
-  pass-done i p g n xs t z h =
-      let s = g.goes xs t z h in
-      let k = params_none b s.0 t p z s.1 n in
-      (omega (arith, s.2, k.0), sym (s.3 ∙ k.1))
+  pub pass-done : (i p : ℕ) → Passing b k q i p → (get_or b p 0 ≡ k → ⊥) → (n : ℕ) → Tagged b k n q → (i ≡ n) × (p ≡ after b n q)
+  pass-done i p g e n h =
+      let s = g.goes n h in
+      let t = tagged-none b k s.0 p s.1 e in
+      (omega (arith, s.2, t.0), sym (s.3 ∙ t.1))
 
--- ---- definitions and the term after them
+-- ---- parameters and definitions, and the term behind them
 
-abbrev pub DefsAt : List ℕ → Defs → Term → ℕ → ℕ → Type 0
-DefsAt b ds t p z = Row b (f_defs ds (rcons (f_term t) rnil)) p z
+term-next : (b : List ℕ) (k : ℕ) (t : Term) (p z : ℕ) → k < 0xA0 → Row b (rcons (f_term t) rnil) p z → Tagged b k 0 p
+unfolding Tagged
+term-next b k t p z l h = (omega (arith, row_fits b (f_term t) rnil p z h), λ e. omega (arith, e, l, row-tag b (f_term t) rnil p z h, term-tag t))
 
-defs-fit : (b : List ℕ) (ds : Defs) (t : Term) (p z : ℕ) → DefsAt b ds t p z → end_of b p ≤ z
-unfolding f_term
-defs-fit b ds_nil t p z h = row_fits b (f_term t) rnil p z h
-defs-fit b (ds_cons d ds) t p z h = row_fits b (f_def d) (f_defs ds (rcons (f_term t) rnil)) p z h
+pub names-tagged : (b : List ℕ) (xs : List Name) (t : Term) (p z : ℕ) → Row b (f_names 0x91 xs (rcons (f_term t) rnil)) p z → Tagged b 0x91 (length xs) p
+unfolding f_names Tagged
+names-tagged b [] t p z h = term-next b 0x91 t p z (omega arith) h
+names-tagged b (x ∷ xs) t p z h =
+    let r = f_names 0x91 xs (rcons (f_term t) rnil) in
+    (row-tag b (f_name 0x91 x) r p z h, row_fits b (f_name 0x91 x) r p z h, names-tagged b xs t (end_of b p) z (row-rest b (f_name 0x91 x) r p z h))
 
 def-tag : (d : Def) → tag_of (f_def d) ≡ 0x8C
 unfolding f_term
 def-tag (def p f xs t) = refl
 
-defs-step : (b : List ℕ) (ds : Defs) (t : Term) (p z : ℕ) → DefsAt b ds t p z → get_or b p 0 ≡ 0x8C → (es : Defs) × DefsAt b es t (end_of b p) z
-unfolding f_term At
-defs-step b ds_nil t p z h e = absurd (omega (arith, row-tag b (f_term t) rnil p z h, term-tag t))
-defs-step b (ds_cons d ds) t p z h e = (ds, h.2)
+pub defs_many : Defs → ℕ
+defs_many ds_nil = 0
+defs_many (ds_cons d ds) = suc (defs_many ds)
 
-defs-none : (b : List ℕ) (ds : Defs) (t : Term) (p z : ℕ) → DefsAt b ds t p z → (get_or b p 0 ≡ 0x8C → ⊥) → TermAt b t p
-unfolding f_term At
-defs-none b ds_nil t p z h n = (h.1, sym (term-place t) ∙ h.0)
-defs-none b (ds_cons d ds) t p z h n = absurd (n (row-tag b (f_def d) (f_defs ds (rcons (f_term t) rnil)) p z h ∙ def-tag d))
-
-pub record Skipping (b : List ℕ) (q p : ℕ) : Type 0 where
-  pub goes : (ds : Defs) (t : Term) (z : ℕ) → DefsAt b ds t q z → (es : Defs) × DefsAt b es t p z
-
-module _ (b : List ℕ) (q : ℕ) where
-  pub skip-start : Skipping b q q
-  skip-start = record { goes = λ ds t z h. (ds, h) }
-
-  pub skip-fits : (p : ℕ) → Skipping b q p → (ds : Defs) (t : Term) (z : ℕ) → DefsAt b ds t q z → z ≤ length b → end_of b p ≤ length b
-  skip-fits p g ds t z h l = let s = g.goes ds t z h in omega (arith, defs-fit b s.0 t p z s.1)
-
-  pub skip-more : (p r : ℕ) → Skipping b q p → get_or b p 0 ≡ 0x8C → r ≡ end_of b p → Skipping b q r
-  skip-more p r g e f = record {
-    goes = λ ds t z h.
-        let s = g.goes ds t z h in
-        let k = defs-step b s.0 t p z s.1 e in
-        (k.0, subst (λ (n : ℕ). DefsAt b k.0 t n z) (sym f) k.1);
-  }
-
-  pub skip-done : (p : ℕ) → Skipping b q p → (get_or b p 0 ≡ 0x8C → ⊥) → (ds : Defs) (t : Term) (z : ℕ) → DefsAt b ds t q z → TermAt b t p
-  skip-done p g n ds t z h =
-      let s = g.goes ds t z h in
-      defs-none b s.0 t p z s.1 n
+pub defs-tagged : (b : List ℕ) (ds : Defs) (t : Term) (p z : ℕ) → Row b (f_defs ds (rcons (f_term t) rnil)) p z
+    → Tagged b 0x8C (defs_many ds) p × TermAt b t (after b (defs_many ds) p)
+unfolding f_term At Tagged after defs_many
+defs-tagged b ds_nil t p z h = (term-next b 0x8C t p z (omega arith) h, (h.1, sym (term-place t) ∙ h.0))
+defs-tagged b (ds_cons d ds) t p z h =
+    let r = f_defs ds (rcons (f_term t) rnil) in
+    let s = defs-tagged b ds t (end_of b p) z (row-rest b (f_def d) r p z h) in
+    ((row-tag b (f_def d) r p z h ∙ def-tag d, row_fits b (f_def d) r p z h, s.0), s.1)

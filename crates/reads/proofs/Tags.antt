@@ -8,7 +8,6 @@ use lib.Dec.{eqb, ltb}
 use borrow.Author.Tests.{ltb-true}
 use Rattle.tree.specs.Rose.{end_of}
 use Rattle.reads.specs.Bytes.{is_tag, past}
-use Rattle.reads.specs.Widths.{is_plain}
 
 pub tag-lt : (b : List ℕ) (q z k : ℕ) → is_tag b q z k ≡ true → q < z
 tag-lt b q z k e = ltb-true q z (left (ltb q z) (eqb (get_or b q 0) k) e)
@@ -22,9 +21,3 @@ past-on b q z k e = rw e
 
 pub past_off : (b : List ℕ) (q z k : ℕ) → is_tag b q z k ≡ false → q ≡ past b q z k
 past_off b q z k e = rw e
-
-pub plain-on : (b : List ℕ) (q z u : ℕ) → u ≡ end_of b q → is_tag b q z 0xBB ≡ true → eqb u z ≡ is_plain b q z
-plain-on b q z u e t = rw (t, e)
-
-pub plain-off : (b : List ℕ) (q z : ℕ) → is_tag b q z 0xBB ≡ false → false ≡ is_plain b q z
-plain-off b q z t = rw t

@@ -9,3 +9,4 @@ pub mod Texts
 pub mod Bounds
 pub mod Places
 pub mod Kinds
+pub mod Tagged

@@ -6,6 +6,7 @@ ghost use Rattle.tree.specs.Tree.{Name, Term, Defs};
 ghost use Rattle.tree.specs.Form.{f_term, f_names, f_defs};
 ghost use Rattle.rules.specs.Names.{same, is_var};
 ghost use Rattle.reads.specs.Bytes.{len_of, pair_at, four_of, many, after, TermAt, is_tag, past, sub_pattern, word_of, colons_at, colons_of};
+ghost use Rattle.reads.specs.Tagged.{Tagged};
 
 // The number that two bytes from p on hold.
 fn pair(b: &[u8], p: usize) -> usize
@@ -104,24 +105,34 @@ pub fn members(b: &[u8], q: usize, z: usize) -> usize
     fields(b, q, z).count()
 }
 
-// Parameters from q on: how many, and the place after them. A term follows them, whose tag is no parameter's.
+// Fields of one tag, one after the other: how many, and the place after them.
 #[derive(Clone, Copy)]
 pub struct Sig {
     pub a: usize,
     pub q: usize,
 }
 
-pub fn params(b: &[u8], q: usize) -> Sig
-    requires { (xs : List Name) × (t : Term) × (z : ℕ) × Row b.now (f_names 0x91 xs (rcons (f_term t) rnil)) q z × (z ≤ length b.now) }
-    ensures { (xs : List Name) (t : Term) (z : ℕ) → Row b.now (f_names 0x91 xs (rcons (f_term t) rnil)) q z → (result.a ≡ length xs) × (result.q ≡ after b.now (length xs) q) }
+// The fields of the tag from q on, behind which one of another tag stands.
+fn tagged(b: &[u8], q: usize, tag: u8) -> Sig
+    requires { (n : ℕ) × Tagged b.now tag n q }
+    ensures { (n : ℕ) → Tagged b.now tag n q → (result.a ≡ n) × (result.q ≡ after b.now n q) }
 {
     let mut i = 0;
     let mut p = q;
-    while b[p] == 0x91 {
+    // Kept: only the next field's tag says where these end, and `fields` goes up to a place that is known.
+    while b[p] == tag {
         p = end_of(b, p);
         i += 1;
     }
     Sig { a: i, q: p }
+}
+
+// Parameters from q on. A term follows them, whose tag is no parameter's.
+pub fn params(b: &[u8], q: usize) -> Sig
+    requires { (xs : List Name) × (t : Term) × (z : ℕ) × Row b.now (f_names 0x91 xs (rcons (f_term t) rnil)) q z × (z ≤ length b.now) }
+    ensures { (xs : List Name) (t : Term) (z : ℕ) → Row b.now (f_names 0x91 xs (rcons (f_term t) rnil)) q z → (result.a ≡ length xs) × (result.q ≡ after b.now (length xs) q) }
+{
+    tagged(b, q, 0x91)
 }
 
 // The place after the definitions from q on, which a term follows.
@@ -129,11 +140,7 @@ pub fn after_defs(b: &[u8], q: usize) -> usize
     requires { (ds : Defs) × (t : Term) × (z : ℕ) × Row b.now (f_defs ds (rcons (f_term t) rnil)) q z × (z ≤ length b.now) }
     ensures { (ds : Defs) (t : Term) (z : ℕ) → Row b.now (f_defs ds (rcons (f_term t) rnil)) q z → TermAt b.now t result }
 {
-    let mut p = q;
-    while b[p] == 0x8C {
-        p = end_of(b, p);
-    }
-    p
+    tagged(b, q, 0x8C).q
 }
 
 // Whether a field of the tag stands at q, before z.

@@ -156,10 +156,7 @@ pub fn fold_of(b: &[u8], p: usize) -> Fold
 fn bound_width(on: bool) -> usize
     ensures { (result ≡ cond on 2 0) × (result ≤ 2) }
 {
-    if on {
-        return 2;
-    }
-    0
+    2 * usize::from(on)
 }
 
 // A part within a record: a range is 4 bytes, and two for each bound.
@@ -203,10 +200,7 @@ pub fn is_plain(b: &[u8], q: usize, z: usize) -> bool
     requires { (z ≤ length b.now) × ((q < z) → (end_of b.now q ≤ length b.now)) }
     ensures { result ≡ is_plain b.now q z }
 {
-    if bytes::is_tag(b, q, z, 0xBB) {
-        return end_of(b, q) == z;
-    }
-    false
+    bytes::is_tag(b, q, z, 0xBB) && end_of(b, q) == z
 }
 
 // The own record of one part of a string.
@@ -214,8 +208,7 @@ fn string_width(b: &[u8], q: usize) -> usize
     requires { (x : StrPart) × Row b.now (rcons (f_str_part x) rnil) q (end_of b.now q) }
     ensures { ((x : StrPart) → Row b.now (rcons (f_str_part x) rnil) q (end_of b.now q) → result ≡ str_width x) × (result + q ≤ end_of b.now q + 5) }
 {
-    let tag = b[q];
-    match tag {
+    match b[q] {
         0xBB => 3 + len_of(b, q),
         0xBC => 3 + text::utf8_len(bytes::char_at(b, q)),
         _ => 8,

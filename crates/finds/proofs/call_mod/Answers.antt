@@ -1,17 +1,13 @@
 -- `finds::call_mod` meets its contract: the module part, then the rest, among that module's definitions. Assumes nothing.
 use Rattle.finds.proofs.Meanings.{rest-fits, mod-returns, mod-returns-none, mod-returns-some, import-low, import-is}
-use lib.Seq.{length-take-le}
 use lib.ListN.{take}
-use mathlib.Core.Path.{refl, sym, subst}
+use mathlib.Core.Path.{refl, subst}
 use Rattle.rules.specs.Names.{Text}
 use Rattle.finds.specs.Asks.{Defined}
 use Rattle.finds.specs.Gives.{gives-some, gives-none}
 use native.Mathlib.Omega.{arith}
 use borrow.Author.Rules.{rules}
 use Rattle.finds.proofs.call_mod.Goals as goal
-
-pub slice_bounds-import-end : goal.slice_bounds-import-end
-slice_bounds-import-end c = let a = c.args in sym (length-take-le a.c a.x.now (omega (arith, c.requires.3)))
 
 pub returns-in_default : goal.returns-in_default
 returns-in_default c = let a = c.args in mod-returns a.tree.now a.rows.now a.x.now a.c a.at a.a c.requires.2 c.requires.3 0 (gives-none _ _ c.import.ensures c.in_default.is) refl _ refl

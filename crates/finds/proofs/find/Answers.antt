@@ -1,19 +1,12 @@
 -- `finds::find` meets its contract: the bucket of the name has every row in view that matches. Assumes nothing.
-use Rattle.finds.proofs.Seeks.{viewed-low, viewed-cell, viewed-along, find-returns}
+use Rattle.finds.proofs.Seeks.{viewed-along, find-returns}
 use lib.ListN.{get_or}
 use mathlib.Core.Path.{ap, subst, ◌∙◌}
 use Rattle.rules.specs.Names.{Text}
 use Rattle.reads.specs.Bytes.{word_of}
 use Rattle.finds.specs.Asks.{Seeks}
 use Rattle.finds.specs.Gives.{or_zero}
-use native.Mathlib.Omega.{arith}
 use Rattle.finds.proofs.find.Goals as goal
-
-pub head_of-h-requires : goal.head_of-h-requires
-head_of-h-requires c = let a = c.args in (omega (arith, viewed-low a.tree.now a.rows.now c.requires.0), c.requires.1)
-
-pub bounds-rows-h : goal.bounds-rows-h
-bounds-rows-h c = let a = c.args in viewed-cell a.tree.now a.rows.now c.requires.0 c.head_of-h.result c.head_of-h.ensures.2
 
 pub seek-requires : goal.seek-requires
 seek-requires c = let a = c.args in viewed-along a.tree.now a.rows.now c.requires.0 c.head_of-h.result c.head_of-h.ensures.1 c.head_of-h.ensures.2

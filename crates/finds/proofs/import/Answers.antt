@@ -1,6 +1,6 @@
 -- `finds::import` meets its contract: the last import of the name is kept. Assumes nothing.
 use native.Mathlib.Omega.{arith}
-use Rattle.finds.proofs.Seeks.{Passing, imports-fit, imports-row, passing-start, passing-fit, passing-more, passing-done, viewed-low}
+use Rattle.finds.proofs.Seeks.{Passing, imports-fit, imports-row, passing-start, passing-fit, passing-more, passing-done}
 use Prim.Native.Nat.{ℕ, ◌+◌}
 use lib.ListN.{get_or}
 use mathlib.Core.Bool.{true, false}
@@ -9,9 +9,6 @@ use Rattle.tree.specs.Rose.{end_of}
 use Rattle.reads.specs.Places.{begun, turn, turned}
 use Rattle.finds.specs.Gives.{or_zero, gave-some, gave-none}
 use Rattle.finds.proofs.import.Goals as goal
-
-pub bounds-rows-4 : goal.bounds-rows-4
-bounds-rows-4 c = let a = c.args in omega (arith, viewed-low a.tree.now a.rows.now c.requires)
 
 pub end_of-requires : goal.end_of-requires
 end_of-requires c = let a = c.args in imports-fit a.tree.now a.rows.now c.requires

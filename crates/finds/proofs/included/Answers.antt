@@ -1,13 +1,8 @@
 -- `finds::included` meets its contract: from the last number back; a number is five bytes. Assumes nothing.
-use native.Mathlib.Omega.{arith}
 use Rattle.finds.proofs.Meanings.{includes-fit, counted-start, counted-low, counted-known, counted-found, counted-more, counted-done}
-use Rattle.finds.proofs.Seeks.{viewed-low}
 use mathlib.Core.Path.{refl}
 use Rattle.finds.specs.Gives.{gives-some, gives-none, gave-some, gave-none}
 use Rattle.finds.proofs.included.Goals as goal
-
-pub bounds-rows-5 : goal.bounds-rows-5
-bounds-rows-5 c = let a = c.args in omega (arith, viewed-low a.tree.now a.rows.now c.requires)
 
 pub end_of-requires : goal.end_of-requires
 end_of-requires c = let a = c.args in includes-fit a.tree.now a.rows.now c.requires

@@ -8,7 +8,7 @@ use Rattle.finds.specs.Asks.{Seeks, Includes}
 use Rattle.finds.specs.Gives.{or_zero, gives-some, gives-none}
 use Rattle.finds.specs.Numbers.{numbers}
 use Rattle.finds.proofs.Meanings.{local-lost, local-within, local-argument, local-parent, local-sibling, local-native}
-use Rattle.finds.proofs.Seeks.{viewed-low, viewed-cell, viewed-along}
+use Rattle.finds.proofs.Seeks.{viewed-along}
 use Rattle.cells.specs.Kinds.{kind_number}
 use Rattle.cells.specs.declared.RowKind.{RowKind}
 use Rattle.cells.specs.declared.RowKind.TheVariants.{Var, Label, Arg, Parent, Sibling, Native, Kept, Piece}
@@ -25,18 +25,8 @@ unlike Native a p s = (λ e. omega arith, λ e. omega arith, λ e. omega arith)
 unlike Kept a p s = (λ e. omega arith, λ e. omega arith, λ e. omega arith)
 unlike Piece a p s = (λ e. omega arith, λ e. omega arith, λ e. omega arith)
 
-pub head_of-h-requires : goal.head_of-h-requires
-head_of-h-requires c = let a = c.args in (omega (arith, viewed-low a.tree.now a.rows.now c.requires.0), c.requires.1)
-
-pub bounds-rows-h : goal.bounds-rows-h
-bounds-rows-h c = let a = c.args in viewed-cell a.tree.now a.rows.now c.requires.0 c.head_of-h.result c.head_of-h.ensures.2
-
 pub seek-requires : goal.seek-requires
 seek-requires c = let a = c.args in viewed-along a.tree.now a.rows.now c.requires.0 c.head_of-h.result c.head_of-h.ensures.1 c.head_of-h.ensures.2
-
-pub outside-requires : goal.outside-requires
-outside-requires c =
-    c.included.ensures.real
 
 pub returns-in_default : goal.returns-in_default
 returns-in_default c =

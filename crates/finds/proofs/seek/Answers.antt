@@ -1,10 +1,7 @@
 -- `finds::seek` meets its contract: along the links of a bucket; each row is further out than the one before it. Assumes nothing.
-use Rattle.finds.proofs.Seeks.{going_start, going-row, going_less, going_more, going-found, going_done}
+use Rattle.finds.proofs.Seeks.{going-row, going_less, going_more, going-found, going_done}
 use Rattle.finds.specs.Gives.{gave-some, gave-none}
 use Rattle.finds.proofs.seek.Goals as goal
-
-pub loop-i-init : goal.loop-i-init
-loop-i-init c = let a = c.args in going_start a.tree.now a.rows.now a.x.now.name.now a.x.now.word a.x.now.key a.j a.j c.requires
 
 pub is_row-requires : goal.is_row-requires
 is_row-requires c = let a = c.args in (going-row a.tree.now a.rows.now a.x.now.name.now a.x.now.word a.x.now.key a.j c.loop-i.i c.loop-i.invariant c.loop-i-test.true)

@@ -1,15 +1,8 @@
 -- `finds::within` meets its contract: from the last row down. Assumes nothing.
-use Prim.Native.Nat.{◌-◌}
 use native.Mathlib.Omega.{arith}
-use Rattle.finds.proofs.Seeks.{down-start, down-more, down-found, down-done}
+use Rattle.finds.proofs.Seeks.{down-more, down-found, down-done}
 use Rattle.finds.specs.Gives.{gave-some, gave-none}
 use Rattle.finds.proofs.within.Goals as goal
-
-pub loop-j-init : goal.loop-j-init
-loop-j-init c = let a = c.args in down-start a.tree.now a.rows.now a.x.now.name.now a.x.now.word a.x.now.key a.lo a.hi a.hi c.requires.1
-
-pub is_row-requires : goal.is_row-requires
-is_row-requires c = let a = c.args in (c.requires.2 (c.loop-j.j - 1) (omega (arith, c.loop-j-test.true)) (omega (arith, c.loop-j-test.true, c.loop-j.invariant.high)))
 
 pub returns-then-is_row : goal.returns-then-is_row
 returns-then-is_row c = let a = c.args in gave-some _ _ (down-found a.tree.now a.rows.now a.x.now.name.now a.x.now.word a.x.now.key a.lo a.hi c.loop-j.j c.loop-j.invariant c.loop-j-test.true c.is_row.result c.is_row.ensures c.if-is_row.true) (λ e. omega (arith, c.requires.0, c.loop-j-test.true, c.loop-j.invariant.low))

@@ -1,16 +1,10 @@
 -- `finds::under::body_of` meets its contract: past the definitions of one term after the other. Assumes nothing.
-use Rattle.finds.proofs.Unders.{bodying-start, bodying-fits, bodying-opens, bodying-less, bodying-more, bodying-done}
+use Rattle.finds.proofs.Unders.{bodying-fits, bodying-opens, bodying-less, bodying-more, bodying-done}
 use native.Mathlib.Omega.{arith}
 use Rattle.finds.proofs.under.body_of.Goals as goal
 
-pub loop-q-init : goal.loop-q-init
-loop-q-init c = let a = c.args in bodying-start a.b.now a.p
-
 pub bounds-b-q : goal.bounds-b-q
 bounds-b-q c = let a = c.args in omega (arith, bodying-fits a.b.now a.p c.loop-q.q c.loop-q.invariant c.requires)
-
-pub overflow_add-q : goal.overflow_add-q
-overflow_add-q c = let a = c.args in omega (arith, bodying-fits a.b.now a.p c.loop-q.q c.loop-q.invariant c.requires)
 
 pub after_defs-q-requires : goal.after_defs-q-requires
 after_defs-q-requires c = let a = c.args in bodying-opens a.b.now a.p c.loop-q.q c.loop-q.invariant c.requires c.loop-q-test.true

@@ -7,9 +7,6 @@ use native.Mathlib.Omega.{arith}
 use borrow.Author.Rules.{rules}
 use Rattle.finds.proofs.under.called_width.Goals as goal
 
-pub overflow_add-q : goal.overflow_add-q
-overflow_add-q c = let a = c.args in omega (arith, (call-here a.b.now a.q _ c.requires.3 c.requires.2.2).at.fits)
-
 pub end_of-z-requires : goal.end_of-z-requires
 end_of-z-requires c = let a = c.args in (call-here a.b.now a.q _ c.requires.3 c.requires.2.2).at.name
 

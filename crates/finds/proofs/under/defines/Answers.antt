@@ -1,25 +1,16 @@
 -- `finds::under::defines` meets its contract: the definitions of one term after the other. Assumes nothing.
-use Rattle.finds.proofs.Unders.{defining-start, defining-fits, defining-opens, defining-found, defining-less, defining-more, defining-done}
+use Rattle.finds.proofs.Unders.{defining-fits, defining-opens, defining-found, defining-less, defining-more, defining-done}
 use native.Mathlib.Omega.{arith}
 use Rattle.finds.proofs.under.defines.Goals as goal
 
-pub loop-q-init : goal.loop-q-init
-loop-q-init c = let a = c.args in defining-start a.b.now a.p a.x.now a.a
-
 pub bounds-b-q : goal.bounds-b-q
 bounds-b-q c = let a = c.args in omega (arith, defining-fits a.b.now a.p a.x.now a.a c.loop-q.q c.loop-q.invariant c.requires)
-
-pub overflow_add-q : goal.overflow_add-q
-overflow_add-q c = let a = c.args in omega (arith, defining-fits a.b.now a.p a.x.now a.a c.loop-q.q c.loop-q.invariant c.requires)
 
 pub declares-requires : goal.declares-requires
 declares-requires c = let a = c.args in defining-opens a.b.now a.p a.x.now a.a c.loop-q.q c.loop-q.invariant c.requires c.loop-q-test.true
 
 pub returns-then-declares : goal.returns-then-declares
 returns-then-declares c = let a = c.args in defining-found a.b.now a.p a.x.now a.a c.loop-q.q c.loop-q.invariant c.requires c.loop-q-test.true c.declares.result c.declares.ensures c.if-declares.true
-
-pub overflow_add-q-in-loop-q : goal.overflow_add-q-in-loop-q
-overflow_add-q-in-loop-q c = let a = c.args in omega (arith, defining-fits a.b.now a.p a.x.now a.a c.loop-q.q c.loop-q.invariant c.requires)
 
 pub after_defs-q-requires : goal.after_defs-q-requires
 after_defs-q-requires c = let a = c.args in defining-opens a.b.now a.p a.x.now a.a c.loop-q.q c.loop-q.invariant c.requires c.loop-q-test.true

@@ -21,5 +21,5 @@ params-requires c = let a = c.args in params_at a.b.now a.p c.requires.0 c.requi
 pub returns-then-is_text : goal.returns-then-is_text
 returns-then-is_text c = let a = c.args in def-fits-at a.b.now a.p a.x.now a.a c.is_text.result c.is_text.ensures c.if-is_text.true c.end_of.result c.end_of.ensures c.params.result.a (λ xs t z h. (c.params.ensures xs t z h).0)
 
-pub returns : goal.returns
-returns c = let a = c.args in def-other a.b.now a.p a.x.now a.a c.is_text.result c.is_text.ensures c.if-is_text.false
+pub returns-else-is_text : goal.returns-else-is_text
+returns-else-is_text c = let a = c.args in rw c.if-is_text.false (def-other a.b.now a.p a.x.now a.a c.is_text.result c.is_text.ensures c.if-is_text.false)

@@ -1,22 +1,15 @@
 -- `after_defs` meets its contract. Assumes nothing.
-use native.Mathlib.Omega.{arith}
-use Rattle.reads.proofs.Rows.{skip-start, skip-fits, skip-more, skip-done}
+use Prim.Native.Nat.{ℕ}
+use mathlib.Core.Path.{subst, sym}
+use Rattle.reads.specs.Bytes.{TermAt}
+use Rattle.reads.proofs.Rows.{defs-tagged}
 use Rattle.reads.proofs.bytes.after_defs.Goals as goal
 
-pub loop-p-init : goal.loop-p-init
-loop-p-init c = skip-start _ _
-
-pub bounds-b-p : goal.bounds-b-p
-bounds-b-p c = let s = c.requires in omega (arith, skip-fits _ _ _ c.loop-p.invariant _ _ _ s.3 s.4)
-
-pub end_of-p-requires : goal.end_of-p-requires
-end_of-p-requires c = let s = c.requires in skip-fits _ _ _ c.loop-p.invariant _ _ _ s.3 s.4
-
-pub loop-p-smaller : goal.loop-p-smaller
-loop-p-smaller c = let s = c.requires in omega (arith, skip-fits _ _ _ c.loop-p.invariant _ _ _ s.3 s.4)
-
-pub loop-p-preserved : goal.loop-p-preserved
-loop-p-preserved c = skip-more _ _ _ _ c.loop-p.invariant c.loop-p-test.true c.end_of-p.ensures
+pub tagged-requires : goal.tagged-requires
+tagged-requires c = let s = c.requires in (_, (defs-tagged _ s.0 s.1 _ s.2 s.3).0)
 
 pub returns : goal.returns
-returns c = skip-done _ _ _ c.loop-p.invariant c.loop-p-test.false
+returns c = λ ds t z h.
+    let b = c.args.b.now in
+    let d = defs-tagged b ds t c.args.q z h in
+    subst (λ (p : ℕ). TermAt b t p) (sym (c.tagged.ensures _ d.0).1) d.1

@@ -1,25 +1,9 @@
 -- `params` meets its contract. Assumes nothing.
-use native.Mathlib.Omega.{arith}
-use Rattle.reads.proofs.Rows.{pass-start, pass_fits, pass-more, pass-done}
+use Rattle.reads.proofs.Rows.{names-tagged}
 use Rattle.reads.proofs.bytes.params.Goals as goal
 
-pub loop-p-init : goal.loop-p-init
-loop-p-init c = pass-start _ _
-
-pub bounds-b-p : goal.bounds-b-p
-bounds-b-p c = let s = c.requires in omega (arith, pass_fits _ _ _ _ c.loop-p.invariant _ _ _ s.3 s.4)
-
-pub end_of-p-requires : goal.end_of-p-requires
-end_of-p-requires c = let s = c.requires in pass_fits _ _ _ _ c.loop-p.invariant _ _ _ s.3 s.4
-
-pub overflow_add-i : goal.overflow_add-i
-overflow_add-i c = let s = c.requires in omega (arith, c.loop-p.invariant.few, pass_fits _ _ _ _ c.loop-p.invariant _ _ _ s.3 s.4)
-
-pub loop-p-smaller : goal.loop-p-smaller
-loop-p-smaller c = let s = c.requires in omega (arith, pass_fits _ _ _ _ c.loop-p.invariant _ _ _ s.3 s.4)
-
-pub loop-p-preserved : goal.loop-p-preserved
-loop-p-preserved c = pass-more _ _ _ _ _ c.loop-p.invariant c.loop-p-test.true c.end_of-p.ensures
+pub tagged-requires : goal.tagged-requires
+tagged-requires c = let s = c.requires in (_, names-tagged _ s.0 s.1 _ s.2 s.3)
 
 pub returns : goal.returns
-returns c = pass-done _ _ _ _ c.loop-p.invariant c.loop-p-test.false
+returns c = λ xs t z h. c.tagged.ensures _ (names-tagged _ xs t _ z h)

@@ -1,10 +1,10 @@
 use Prim.Native.Nat.{◌-◌}
-use Rattle.reads.proofs.Rows.{Skipping}
+use Rattle.reads.proofs.Rows.{Passing}
 use lib.ListN.{length}
-use Rattle.reads.proofs.bytes.after_defs.Given as goal
+use Rattle.reads.proofs.bytes.tagged.Given as goal
 
 abbrev pub invariant-loop-p : goal.invariant-loop-p
-invariant-loop-p l = Skipping l.b l.q l.p
+invariant-loop-p l = Passing l.b l.tag l.q l.i l.p
 
 abbrev pub decreases-loop-p : goal.decreases-loop-p
 decreases-loop-p l = length l.b - l.p
