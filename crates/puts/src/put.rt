@@ -35,12 +35,25 @@ fn put_bytes<const N: usize>(out: &mut [u8], o: usize, bytes: [u8; N])
     ensures { out.new ≡ overlay out.old o bytes.entry }
 {
     if out.len() < o + N {
-        fields::put(out, o, &bytes);
+        if out.len() <= o {
+            return;
+        }
+        put_some(out, o, bytes);
         return;
     }
     for i in 0..N {
         out[o + i] = bytes[i];
     }
+}
+
+// The same, as far as there is room. A function of its own, so that elsewhere the bytes are no array in memory.
+#[cold]
+#[inline(never)]
+fn put_some<const N: usize>(out: &mut [u8], o: usize, bytes: [u8; N])
+    requires { o + N < 2 ^ 64 }
+    ensures { out.new ≡ overlay out.old o bytes.entry }
+{
+    fields::put(out, o, &bytes);
 }
 
 pub fn put_number(out: &mut [u8], o: usize, a: usize)
@@ -57,6 +70,9 @@ fn put_numbers<const N: usize>(out: &mut [u8], o: usize, tag: u8, numbers: [usiz
     ensures { out.new ≡ overlay out.old o (field tag (pairs numbers.entry)) }
 {
     if out.len() < o + 3 + 2 * N {
+        if out.len() <= o {
+            return;
+        }
         put_cut(out, o, tag, numbers);
         return;
     }
@@ -70,6 +86,8 @@ fn put_numbers<const N: usize>(out: &mut [u8], o: usize, tag: u8, numbers: [usiz
 }
 
 // The same, as far as there is room.
+#[cold]
+#[inline(never)]
 fn put_cut<const N: usize>(out: &mut [u8], o: usize, tag: u8, numbers: [usize; N])
     requires { (o + 3 + 2 * N < 2 ^ 64) × (2 * N < 65536) }
     ensures { out.new ≡ overlay out.old o (field tag (pairs numbers.entry)) }

@@ -3,9 +3,12 @@ use mathlib.Core.Path.{◌≡◌, refl, sym}
 use native.Mathlib.Omega.{arith}
 use lib.ListN.{length, length-set}
 use Rattle.std.proofs.Common.{rules}
-use Rattle.fields.specs.Room.{overlay-none}
+use Rattle.fields.specs.Room.{overlay-none, overlay-out}
 use Rattle.puts.specs.Runs.{one_more, all_of}
 use Rattle.puts.proofs.put.put_bytes.Goals as goal
+
+pub returns-then-out-o-2 : goal.returns-then-out-o-2
+returns-then-out-o-2 g c = sym (overlay-out _ _ _ c.if-out-o-2.true)
 
 pub loop-i-init : goal.loop-i-init
 loop-i-init g c = (sym (overlay-none _ _), refl)

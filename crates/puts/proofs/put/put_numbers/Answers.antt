@@ -1,14 +1,18 @@
 -- `put::put_numbers` meets its contract. Assumes nothing.
 use Prim.Native.Nat.{◌+◌, ◌*◌}
-use mathlib.Core.Path.{◌≡◌, refl}
+use mathlib.Core.Path.{◌≡◌, refl, sym}
 use native.Mathlib.Omega.{arith}
 use lib.ListN.{length, length-set}
 use Rattle.std.proofs.Common.{rules}
 use Rattle.fields.specs.Number.{number}
+use Rattle.fields.specs.Room.{overlay-out}
 use Rattle.puts.specs.Pairs.{pairs}
 use Rattle.puts.specs.Runs.{two-stored, three-stored}
 use Rattle.puts.proofs.Pairing.{one-more, all-there}
 use Rattle.puts.proofs.put.put_numbers.Goals as goal
+
+pub returns-then-out-o-2 : goal.returns-then-out-o-2
+returns-then-out-o-2 g c = sym (overlay-out _ _ _ c.if-out-o-2.true)
 
 pub loop-i-init : goal.loop-i-init
 unfolding number pairs
