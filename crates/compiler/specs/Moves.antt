@@ -7,7 +7,7 @@ use Rattle.rules.specs.Rows.{Env}
 use Rattle.rules.specs.Outs.{slot}
 use Rattle.rules.specs.Rules.{term}
 use Rattle.puts.specs.declared.state.State.{State}
-use Rattle.puts.specs.State.{num, off, ers, start_of, Put, with_num, with_off, with_ers}
+use Rattle.puts.specs.State.{num, off, ers, late, start_of, Put, with_num, with_off, with_ers}
 use Rattle.puts.specs.Rooms.{start-high}
 use Rattle.reads.specs.Bytes.{TermAt}
 use Rattle.cells.specs.Cells.{View, Seen, env_of, number_at, last_at, kind_at, noted}
@@ -66,6 +66,10 @@ pub paid-wider : (p x z y k : ℕ) (s s' : List ℕ) (st st' : State) → p ≤ 
 paid-wider p x z y k s s' st st' h g a = record { kept = a.kept; same = a.same; nums = omega (arith, h, g, a.nums); offs = omega (arith, h, g, a.offs); errs = omega (arith, h, g, a.errs) }
 
 -- ---- a member that is ready: what was used up to here was paid for
+
+-- the next offset is one
+pub ready-low : (b s : List ℕ) (k p z : ℕ) (st : State) → Ready b s k p z st → off st < late
+ready-low b s k p z st r = omega (arith, r.offs)
 
 -- part of a region
 pub ready-part : (b s : List ℕ) (k p p' z z' : ℕ) (st : State) → Ready b s k p z st → p ≤ p' → p' ≤ z' → z' ≤ z → Ready b s k p' z' st

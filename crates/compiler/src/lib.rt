@@ -21,7 +21,7 @@ ghost use Rattle.reads.specs.Bytes.{past, TermAt, PatternAt, DefAt};
 ghost use Rattle.reads.specs.Kinds.{fold_number};
 ghost use Rattle.reads.specs.Parts.{NoHead};
 ghost use Rattle.reads.specs.Shapes.{EntryAt};
-ghost use Rattle.puts.specs.State.{num, off, ers, start_of, spot_of, next_of, Put, Own};
+ghost use Rattle.puts.specs.State.{num, off, ers, start_at, spot_at, next_at, at_of, Due, Put, Own};
 ghost use Rattle.cells.specs.Cells.{View, Seen, env_of};
 ghost use Rattle.cells.specs.Notes.{lasts_of, places_in, pair_count};
 ghost use Rattle.compiler.specs.Pieces.{Under, Folding, Noted, Projected, Updating, plain_out, FormatIs, StringIs, EntryIs, LoneIs};
@@ -29,11 +29,11 @@ ghost use Rattle.cells.specs.Classes.{class_number};
 ghost use Rattle.finds.specs.Numbers.{numbers};
 ghost use Rattle.compiler.specs.Calling.{Meaning, Reserved};
 ghost use Rattle.compiler.specs.Same.{Same};
-ghost use Rattle.compiler.specs.Post.{Ready, Stands, Placed, NameIs, Did, Laid, OrEmpty, Else, Passed, Paired, Patterned, Members, Keyed, Parted, PartIs, BoundIs, Strung, Entered, Defined, Scoped};
+ghost use Rattle.compiler.specs.Post.{Ready, Stands, NameIs, Did, Laid, OrEmpty, Else, Passed, Paired, Patterned, Members, Keyed, Parted, PartIs, BoundIs, Strung, Entered, Defined, Scoped};
 
 use cells::{Binding, Class, RowKind, close, note};
 use puts::put::{put_bare, put_one};
-use puts::state::{LATE, State};
+use puts::state::State;
 use puts::{calls, put};
 use reads::bytes::{end_of, fields, members};
 use reads::width::FoldKind;
@@ -59,7 +59,7 @@ impl Compiler<'_, '_> {
         ensures same { Same self.old self.new }
         ensures is { Laid tree.now p self.old.rows.now self.new.rows.now k self.old.st self.new.st self.old.out.now self.new.out.now allowed result }
     {
-        let o = self.st.end;
+        let o = Some(self.st.end);
         self.st.terms += 1;
         let tag = tree[p];
         match tag {
@@ -72,10 +72,10 @@ impl Compiler<'_, '_> {
 
     // The term at p, whose own number is reserved or will be; its own record stands at o.
     #[cycle(compiling)]
-    fn term(&mut self, tree: &[u8], p: usize, k: usize, o: usize, allowed: u64) -> u64
-        requires { Ready tree.now self.old.rows.now k (p + 1) (end_of tree.now p) self.old.st × Stands tree.now p × Placed o self.old.st }
+    fn term(&mut self, tree: &[u8], p: usize, k: usize, o: Option<usize>, allowed: u64) -> u64
+        requires { Ready tree.now self.old.rows.now k (p + 1) (end_of tree.now p) self.old.st × Stands tree.now p × Due o self.old.st }
         ensures same { Same self.old self.new }
-        ensures is { Did tree.now p self.old.rows.now self.new.rows.now k o self.old.st self.new.st self.old.out.now self.new.out.now allowed result }
+        ensures is { Did tree.now p self.old.rows.now self.new.rows.now k (at_of o) self.old.st self.new.st self.old.out.now self.new.out.now allowed result }
     {
         let tag = tree[p];
         match tag {
@@ -101,9 +101,9 @@ impl Compiler<'_, '_> {
 }
 
 // A term without members.
-fn bare(st: &mut State, out: &mut [u8], o: usize, tag: u8) -> u64
-    requires { (o + 3 < 2 ^ 63) × (off st.old + 3 < 2 ^ 63) }
-    ensures { (result ≡ 0) × (st.new ≡ record st.old { end = next_of o (start_of o (off st.old) 3) 3 }) × (out.new ≡ overlay out.old (spot_of o (start_of o (off st.old) 3)) (field tag [])) }
+fn bare(st: &mut State, out: &mut [u8], o: Option<usize>, tag: u8) -> u64
+    requires { (at_of o + 3 < 2 ^ 63) × (off st.old + 3 < 2 ^ 63) }
+    ensures { (result ≡ 0) × (st.new ≡ record st.old { end = next_at o (start_at o (off st.old) 3) 3 }) × (out.new ≡ overlay out.old (spot_at o (start_at o (off st.old) 3)) (field tag [])) }
 {
     put_bare(out, st.alone(o, 3), tag);
     0
@@ -111,10 +111,10 @@ fn bare(st: &mut State, out: &mut [u8], o: usize, tag: u8) -> u64
 
 impl Compiler<'_, '_> {
     // A variable or a break: its index, or an error of the tag and Id.
-    fn named(&mut self, tree: &[u8], p: usize, class: Class, tag: u8, o: usize) -> u64
-        requires { ((k : ℕ) × Ready tree.now self.old.rows.now k (p + 1) (end_of tree.now p) self.old.st) × Stands tree.now p × Placed o self.old.st × NameIs (class_number class) tag (get_or tree.now p 0) }
+    fn named(&mut self, tree: &[u8], p: usize, class: Class, tag: u8, o: Option<usize>) -> u64
+        requires { ((k : ℕ) × Ready tree.now self.old.rows.now k (p + 1) (end_of tree.now p) self.old.st) × Stands tree.now p × Due o self.old.st × NameIs (class_number class) tag (get_or tree.now p 0) }
         ensures same { Same self.old self.new }
-        ensures is { (k al : ℕ) → Did tree.now p self.old.rows.now self.new.rows.now k o self.old.st self.new.st self.old.out.now self.new.out.now al result }
+        ensures is { (k al : ℕ) → Did tree.now p self.old.rows.now self.new.rows.now k (at_of o) self.old.st self.new.st self.old.out.now self.new.out.now al result }
     {
         let z = end_of(tree, p);
         let rows = &mut *self.rows;
@@ -134,10 +134,10 @@ impl Compiler<'_, '_> {
     }
 
     // "Num: one or more decimal digits alone, at most 2^63-1, give Int; all else Num with its text."
-    fn num(&mut self, tree: &[u8], p: usize, o: usize) -> u64
-        requires { Stands tree.now p × Placed o self.old.st × (get_or tree.now p 0 ≡ 0xAA) × (length tree.now ≤ 32768) × (off self.old.st ≤ 2 ^ 36) }
+    fn num(&mut self, tree: &[u8], p: usize, o: Option<usize>) -> u64
+        requires { Stands tree.now p × Due o self.old.st × (get_or tree.now p 0 ≡ 0xAA) × (length tree.now ≤ 32768) × (off self.old.st ≤ 2 ^ 36) }
         ensures same { Same self.old self.new }
-        ensures is { (k al : ℕ) → Did tree.now p self.old.rows.now self.new.rows.now k o self.old.st self.new.st self.old.out.now self.new.out.now al result }
+        ensures is { (k al : ℕ) → Did tree.now p self.old.rows.now self.new.rows.now k (at_of o) self.old.st self.new.st self.old.out.now self.new.out.now al result }
     {
         let z = end_of(tree, p);
         if let Some(v) = width::int_of(&tree[p + 3..z]) {
@@ -177,10 +177,10 @@ impl Compiler<'_, '_> {
     }
 
     #[cycle(compiling)]
-    fn arr(&mut self, tree: &[u8], p: usize, k: usize, o: usize) -> u64
-        requires { Ready tree.now self.old.rows.now k (p + 1) (end_of tree.now p) self.old.st × Stands tree.now p × Placed o self.old.st × (get_or tree.now p 0 ≡ 0xA2) }
+    fn arr(&mut self, tree: &[u8], p: usize, k: usize, o: Option<usize>) -> u64
+        requires { Ready tree.now self.old.rows.now k (p + 1) (end_of tree.now p) self.old.st × Stands tree.now p × Due o self.old.st × (get_or tree.now p 0 ≡ 0xA2) }
         ensures same { Same self.old self.new }
-        ensures is { (al : ℕ) → Did tree.now p self.old.rows.now self.new.rows.now k o self.old.st self.new.st self.old.out.now self.new.out.now al result }
+        ensures is { (al : ℕ) → Did tree.now p self.old.rows.now self.new.rows.now k (at_of o) self.old.st self.new.st self.old.out.now self.new.out.now al result }
     {
         self.st.reserve(o, 5);
         let a = self.st.terms;
@@ -190,10 +190,10 @@ impl Compiler<'_, '_> {
     }
 
     #[cycle(compiling)]
-    fn neg(&mut self, tree: &[u8], p: usize, k: usize, o: usize) -> u64
-        requires { Ready tree.now self.old.rows.now k (p + 1) (end_of tree.now p) self.old.st × Stands tree.now p × Placed o self.old.st × (get_or tree.now p 0 ≡ 0xA3) }
+    fn neg(&mut self, tree: &[u8], p: usize, k: usize, o: Option<usize>) -> u64
+        requires { Ready tree.now self.old.rows.now k (p + 1) (end_of tree.now p) self.old.st × Stands tree.now p × Due o self.old.st × (get_or tree.now p 0 ≡ 0xA3) }
         ensures same { Same self.old self.new }
-        ensures is { (al : ℕ) → Did tree.now p self.old.rows.now self.new.rows.now k o self.old.st self.new.st self.old.out.now self.new.out.now al result }
+        ensures is { (al : ℕ) → Did tree.now p self.old.rows.now self.new.rows.now k (at_of o) self.old.st self.new.st self.old.out.now self.new.out.now al result }
     {
         self.st.reserve(o, 5);
         let a = self.st.terms;
@@ -203,10 +203,10 @@ impl Compiler<'_, '_> {
     }
 
     #[cycle(compiling)]
-    fn label(&mut self, tree: &[u8], p: usize, k: usize, o: usize) -> u64
-        requires { Ready tree.now self.old.rows.now k (p + 1) (end_of tree.now p) self.old.st × Stands tree.now p × Placed o self.old.st × (get_or tree.now p 0 ≡ 0xA4) }
+    fn label(&mut self, tree: &[u8], p: usize, k: usize, o: Option<usize>) -> u64
+        requires { Ready tree.now self.old.rows.now k (p + 1) (end_of tree.now p) self.old.st × Stands tree.now p × Due o self.old.st × (get_or tree.now p 0 ≡ 0xA4) }
         ensures same { Same self.old self.new }
-        ensures is { (al : ℕ) → Did tree.now p self.old.rows.now self.new.rows.now k o self.old.st self.new.st self.old.out.now self.new.out.now al result }
+        ensures is { (al : ℕ) → Did tree.now p self.old.rows.now self.new.rows.now k (at_of o) self.old.st self.new.st self.old.out.now self.new.out.now al result }
     {
         self.st.reserve(o, 5);
         let a = self.st.terms;
@@ -219,10 +219,10 @@ impl Compiler<'_, '_> {
     }
 
     #[cycle(compiling)]
-    fn trial(&mut self, tree: &[u8], p: usize, k: usize, o: usize) -> u64
-        requires { Ready tree.now self.old.rows.now k (p + 1) (end_of tree.now p) self.old.st × Stands tree.now p × Placed o self.old.st × (get_or tree.now p 0 ≡ 0xAB) }
+    fn trial(&mut self, tree: &[u8], p: usize, k: usize, o: Option<usize>) -> u64
+        requires { Ready tree.now self.old.rows.now k (p + 1) (end_of tree.now p) self.old.st × Stands tree.now p × Due o self.old.st × (get_or tree.now p 0 ≡ 0xAB) }
         ensures same { Same self.old self.new }
-        ensures is { (al : ℕ) → Did tree.now p self.old.rows.now self.new.rows.now k o self.old.st self.new.st self.old.out.now self.new.out.now al result }
+        ensures is { (al : ℕ) → Did tree.now p self.old.rows.now self.new.rows.now k (at_of o) self.old.st self.new.st self.old.out.now self.new.out.now al result }
     {
         self.st.reserve(o, 7);
         let a = self.st.terms;
@@ -279,16 +279,16 @@ impl Compiler<'_, '_> {
         ensures is { Else tree.now q z self.old.rows.now self.new.rows.now k self.old.st self.new.st self.old.out.now self.new.out.now allowed result }
     {
         if q < z {
-            return self.term(tree, q, k, LATE, allowed);
+            return self.term(tree, q, k, None, allowed);
         }
-        bare(&mut self.st, self.out, LATE, 0x50)
+        bare(&mut self.st, self.out, None, 0x50)
     }
 
     #[cycle(compiling)]
-    fn ite(&mut self, tree: &[u8], p: usize, k: usize, o: usize, allowed: u64) -> u64
-        requires { Ready tree.now self.old.rows.now k (p + 1) (end_of tree.now p) self.old.st × Stands tree.now p × Placed o self.old.st × (get_or tree.now p 0 ≡ 0xA6) }
+    fn ite(&mut self, tree: &[u8], p: usize, k: usize, o: Option<usize>, allowed: u64) -> u64
+        requires { Ready tree.now self.old.rows.now k (p + 1) (end_of tree.now p) self.old.st × Stands tree.now p × Due o self.old.st × (get_or tree.now p 0 ≡ 0xA6) }
         ensures same { Same self.old self.new }
-        ensures is { Did tree.now p self.old.rows.now self.new.rows.now k o self.old.st self.new.st self.old.out.now self.new.out.now allowed result }
+        ensures is { Did tree.now p self.old.rows.now self.new.rows.now k (at_of o) self.old.st self.new.st self.old.out.now self.new.out.now allowed result }
     {
         let z = end_of(tree, p);
         self.st.reserve(o, 9);
@@ -305,10 +305,10 @@ impl Compiler<'_, '_> {
 
 impl Compiler<'_, '_> {
     #[cycle(compiling)]
-    fn binary(&mut self, tree: &[u8], p: usize, k: usize, o: usize, allowed: u64) -> u64
-        requires { Ready tree.now self.old.rows.now k (p + 1) (end_of tree.now p) self.old.st × Stands tree.now p × Placed o self.old.st × (get_or tree.now p 0 ≡ 0xAD) }
+    fn binary(&mut self, tree: &[u8], p: usize, k: usize, o: Option<usize>, allowed: u64) -> u64
+        requires { Ready tree.now self.old.rows.now k (p + 1) (end_of tree.now p) self.old.st × Stands tree.now p × Due o self.old.st × (get_or tree.now p 0 ≡ 0xAD) }
         ensures same { Same self.old self.new }
-        ensures is { Did tree.now p self.old.rows.now self.new.rows.now k o self.old.st self.new.st self.old.out.now self.new.out.now allowed result }
+        ensures is { Did tree.now p self.old.rows.now self.new.rows.now k (at_of o) self.old.st self.new.st self.old.out.now self.new.out.now allowed result }
     {
         let q = end_of(tree, p + 3);
         if tree[q] == 0xB9 {
@@ -344,10 +344,18 @@ fn right_set(x: u8, allowed: u64) -> u64
 impl Compiler<'_, '_> {
     // An operator other than Pipe, whose field is at q.
     #[cycle(compiling)]
-    fn binop(&mut self, tree: &[u8], p: usize, q: usize, k: usize, o: usize, allowed: u64) -> u64
-        requires { Ready tree.now self.old.rows.now k (p + 1) (end_of tree.now p) self.old.st × Stands tree.now p × Placed o self.old.st × (get_or tree.now p 0 ≡ 0xAD) × (q ≡ end_of tree.now (p + 3)) × (get_or tree.now q 0 ≡ 0xB9) }
+    fn binop(
+        &mut self,
+        tree: &[u8],
+        p: usize,
+        q: usize,
+        k: usize,
+        o: Option<usize>,
+        allowed: u64,
+    ) -> u64
+        requires { Ready tree.now self.old.rows.now k (p + 1) (end_of tree.now p) self.old.st × Stands tree.now p × Due o self.old.st × (get_or tree.now p 0 ≡ 0xAD) × (q ≡ end_of tree.now (p + 3)) × (get_or tree.now q 0 ≡ 0xB9) }
         ensures same { Same self.old self.new }
-        ensures is { Did tree.now p self.old.rows.now self.new.rows.now k o self.old.st self.new.st self.old.out.now self.new.out.now allowed result }
+        ensures is { Did tree.now p self.old.rows.now self.new.rows.now k (at_of o) self.old.st self.new.st self.old.out.now self.new.out.now allowed result }
     {
         let x = tree[q + 3];
         let w = width::op_width(x);
@@ -362,10 +370,18 @@ impl Compiler<'_, '_> {
 
     // A Pipe without a pattern.
     #[cycle(compiling)]
-    fn pipe(&mut self, tree: &[u8], p: usize, q: usize, k: usize, o: usize, allowed: u64) -> u64
-        requires { Ready tree.now self.old.rows.now k (p + 1) (end_of tree.now p) self.old.st × Stands tree.now p × Placed o self.old.st × (get_or tree.now p 0 ≡ 0xAD) × (q ≡ end_of tree.now (p + 3)) × (get_or tree.now q 0 ≡ 0xB7) × (end_of tree.now q ≡ q + 3) }
+    fn pipe(
+        &mut self,
+        tree: &[u8],
+        p: usize,
+        q: usize,
+        k: usize,
+        o: Option<usize>,
+        allowed: u64,
+    ) -> u64
+        requires { Ready tree.now self.old.rows.now k (p + 1) (end_of tree.now p) self.old.st × Stands tree.now p × Due o self.old.st × (get_or tree.now p 0 ≡ 0xAD) × (q ≡ end_of tree.now (p + 3)) × (get_or tree.now q 0 ≡ 0xB7) × (end_of tree.now q ≡ q + 3) }
         ensures same { Same self.old self.new }
-        ensures is { Did tree.now p self.old.rows.now self.new.rows.now k o self.old.st self.new.st self.old.out.now self.new.out.now allowed result }
+        ensures is { Did tree.now p self.old.rows.now self.new.rows.now k (at_of o) self.old.st self.new.st self.old.out.now self.new.out.now allowed result }
     {
         self.st.reserve(o, 8);
         let a = self.st.terms;
@@ -378,10 +394,18 @@ impl Compiler<'_, '_> {
 
     // "Order in Pipe: left, right under the pattern variables, then the pattern."
     #[cycle(compiling)]
-    fn piped(&mut self, tree: &[u8], p: usize, q: usize, k: usize, o: usize, allowed: u64) -> u64
-        requires { Ready tree.now self.old.rows.now k (p + 1) (end_of tree.now p) self.old.st × Stands tree.now p × Placed o self.old.st × (get_or tree.now p 0 ≡ 0xAD) × (q ≡ end_of tree.now (p + 3)) × (get_or tree.now q 0 ≡ 0xB7) × (q + 3 < end_of tree.now q) }
+    fn piped(
+        &mut self,
+        tree: &[u8],
+        p: usize,
+        q: usize,
+        k: usize,
+        o: Option<usize>,
+        allowed: u64,
+    ) -> u64
+        requires { Ready tree.now self.old.rows.now k (p + 1) (end_of tree.now p) self.old.st × Stands tree.now p × Due o self.old.st × (get_or tree.now p 0 ≡ 0xAD) × (q ≡ end_of tree.now (p + 3)) × (get_or tree.now q 0 ≡ 0xB7) × (q + 3 < end_of tree.now q) }
         ensures same { Same self.old self.new }
-        ensures is { Did tree.now p self.old.rows.now self.new.rows.now k o self.old.st self.new.st self.old.out.now self.new.out.now allowed result }
+        ensures is { Did tree.now p self.old.rows.now self.new.rows.now k (at_of o) self.old.st self.new.st self.old.out.now self.new.out.now allowed result }
     {
         let w = 7 + width::pattern_width(tree, q + 3);
         self.st.reserve(o, w);
@@ -475,10 +499,10 @@ impl Compiler<'_, '_> {
 impl Compiler<'_, '_> {
     // "Fold: source, pattern, init, update, projection; update and projection under the variables."
     #[cycle(compiling)]
-    fn fold(&mut self, tree: &[u8], p: usize, k: usize, o: usize, allowed: u64) -> u64
-        requires { Ready tree.now self.old.rows.now k (p + 1) (end_of tree.now p) self.old.st × Stands tree.now p × Placed o self.old.st × (get_or tree.now p 0 ≡ 0xAC) }
+    fn fold(&mut self, tree: &[u8], p: usize, k: usize, o: Option<usize>, allowed: u64) -> u64
+        requires { Ready tree.now self.old.rows.now k (p + 1) (end_of tree.now p) self.old.st × Stands tree.now p × Due o self.old.st × (get_or tree.now p 0 ≡ 0xAC) }
         ensures same { Same self.old self.new }
-        ensures is { Did tree.now p self.old.rows.now self.new.rows.now k o self.old.st self.new.st self.old.out.now self.new.out.now allowed result }
+        ensures is { Did tree.now p self.old.rows.now self.new.rows.now k (at_of o) self.old.st self.new.st self.old.out.now self.new.out.now allowed result }
     {
         let f = width::fold_of(tree, p);
         if f.a < 2 {
@@ -579,10 +603,10 @@ impl Compiler<'_, '_> {
 
 impl Compiler<'_, '_> {
     #[cycle(compiling)]
-    fn path(&mut self, tree: &[u8], p: usize, k: usize, o: usize) -> u64
-        requires { Ready tree.now self.old.rows.now k (p + 1) (end_of tree.now p) self.old.st × Stands tree.now p × Placed o self.old.st × (get_or tree.now p 0 ≡ 0xAE) }
+    fn path(&mut self, tree: &[u8], p: usize, k: usize, o: Option<usize>) -> u64
+        requires { Ready tree.now self.old.rows.now k (p + 1) (end_of tree.now p) self.old.st × Stands tree.now p × Due o self.old.st × (get_or tree.now p 0 ≡ 0xAE) }
         ensures same { Same self.old self.new }
-        ensures is { (al : ℕ) → Did tree.now p self.old.rows.now self.new.rows.now k o self.old.st self.new.st self.old.out.now self.new.out.now al result }
+        ensures is { (al : ℕ) → Did tree.now p self.old.rows.now self.new.rows.now k (at_of o) self.old.st self.new.st self.old.out.now self.new.out.now al result }
     {
         let z = end_of(tree, p);
         let q = end_of(tree, p + 3);
@@ -648,10 +672,10 @@ impl Compiler<'_, '_> {
 
 impl Compiler<'_, '_> {
     #[cycle(compiling)]
-    fn quoted(&mut self, tree: &[u8], p: usize, k: usize, o: usize) -> u64
-        requires { Ready tree.now self.old.rows.now k (p + 1) (end_of tree.now p) self.old.st × Stands tree.now p × Placed o self.old.st × (get_or tree.now p 0 ≡ 0xAF) }
+    fn quoted(&mut self, tree: &[u8], p: usize, k: usize, o: Option<usize>) -> u64
+        requires { Ready tree.now self.old.rows.now k (p + 1) (end_of tree.now p) self.old.st × Stands tree.now p × Due o self.old.st × (get_or tree.now p 0 ≡ 0xAF) }
         ensures same { Same self.old self.new }
-        ensures is { (al : ℕ) → Did tree.now p self.old.rows.now self.new.rows.now k o self.old.st self.new.st self.old.out.now self.new.out.now al result }
+        ensures is { (al : ℕ) → Did tree.now p self.old.rows.now self.new.rows.now k (at_of o) self.old.st self.new.st self.old.out.now self.new.out.now al result }
     {
         let z = end_of(tree, p);
         if width::is_plain(tree, p + 3, z) {
@@ -671,9 +695,9 @@ impl Compiler<'_, '_> {
 }
 
 // A string that is one text, whose field is at q, as most strings are.
-fn plain(tree: &[u8], q: usize, z: usize, st: &mut State, out: &mut [u8], o: usize) -> u64
-    requires { (end_of tree.now q ≡ z) × (z ≤ length tree.now) × (length tree.now ≤ 32768) × (num st.old ≤ 65536) × (off st.old ≤ 2 ^ 40) × Placed o st.old }
-    ensures { ((at : ℕ) → Own (plain_out at (text_of tree.now q)) o st.old st.new out.old out.new) × (result ≡ 0) }
+fn plain(tree: &[u8], q: usize, z: usize, st: &mut State, out: &mut [u8], o: Option<usize>) -> u64
+    requires { (end_of tree.now q ≡ z) × (z ≤ length tree.now) × (length tree.now ≤ 32768) × (num st.old ≤ 65536) × (off st.old ≤ 2 ^ 40) × Due o st.old }
+    ensures { ((at : ℕ) → Own (plain_out at (text_of tree.now q)) (at_of o) st.old st.new out.old out.new) × (result ≡ 0) }
 {
     st.reserve(o, z - q);
     put_bare(out, st.insert(3), 0x52);
@@ -732,10 +756,10 @@ impl Compiler<'_, '_> {
 
 impl Compiler<'_, '_> {
     #[cycle(compiling)]
-    fn obj(&mut self, tree: &[u8], p: usize, k: usize, o: usize) -> u64
-        requires { Ready tree.now self.old.rows.now k (p + 1) (end_of tree.now p) self.old.st × Stands tree.now p × Placed o self.old.st × (get_or tree.now p 0 ≡ 0xB0) }
+    fn obj(&mut self, tree: &[u8], p: usize, k: usize, o: Option<usize>) -> u64
+        requires { Ready tree.now self.old.rows.now k (p + 1) (end_of tree.now p) self.old.st × Stands tree.now p × Due o self.old.st × (get_or tree.now p 0 ≡ 0xB0) }
         ensures same { Same self.old self.new }
-        ensures is { (al : ℕ) → Did tree.now p self.old.rows.now self.new.rows.now k o self.old.st self.new.st self.old.out.now self.new.out.now al result }
+        ensures is { (al : ℕ) → Did tree.now p self.old.rows.now self.new.rows.now k (at_of o) self.old.st self.new.st self.old.out.now self.new.out.now al result }
     {
         let z = end_of(tree, p);
         let w = width::entries_width(tree, p + 3, z);
@@ -825,10 +849,10 @@ fn meaning(tree: &[u8], rows: &[u64], k: usize, x: &[u8], at: usize, a: usize) -
 impl Compiler<'_, '_> {
     // "Arguments are compiled before lookup": the name means the same before, and its error stands after theirs.
     #[cycle(compiling)]
-    fn call(&mut self, tree: &[u8], p: usize, k: usize, o: usize, allowed: u64) -> u64
-        requires { Ready tree.now self.old.rows.now k (p + 1) (end_of tree.now p) self.old.st × Stands tree.now p × Placed o self.old.st × (get_or tree.now p 0 ≡ 0xA8) }
+    fn call(&mut self, tree: &[u8], p: usize, k: usize, o: Option<usize>, allowed: u64) -> u64
+        requires { Ready tree.now self.old.rows.now k (p + 1) (end_of tree.now p) self.old.st × Stands tree.now p × Due o self.old.st × (get_or tree.now p 0 ≡ 0xA8) }
         ensures same { Same self.old self.new }
-        ensures is { Did tree.now p self.old.rows.now self.new.rows.now k o self.old.st self.new.st self.old.out.now self.new.out.now allowed result }
+        ensures is { Did tree.now p self.old.rows.now self.new.rows.now k (at_of o) self.old.st self.new.st self.old.out.now self.new.out.now allowed result }
     {
         let q = end_of(tree, p + 3);
         let a = members(tree, q, end_of(tree, p));
@@ -862,23 +886,25 @@ impl Compiler<'_, '_> {
 // ---- definitions
 
 // Where the own record stands before the definitions, its length is that of the term's that they are for, which may be a call of one of them.
-fn reserve_def(tree: &[u8], p: usize, rows: &[u64], st: &mut State, o: usize)
-    requires { ((k : ℕ) × Ready tree.now rows.now k (p + 1) (end_of tree.now p) st.old) × Stands tree.now p × Placed o st.old × (get_or tree.now p 0 ≡ 0xA9) }
-    ensures { Reserved tree.now p rows.now o st.old st.new }
+fn reserve_def(tree: &[u8], p: usize, rows: &[u64], st: &mut State, o: Option<usize>)
+    requires { ((k : ℕ) × Ready tree.now rows.now k (p + 1) (end_of tree.now p) st.old) × Stands tree.now p × Due o st.old × (get_or tree.now p 0 ≡ 0xA9) }
+    ensures { Reserved tree.now p rows.now (at_of o) st.old st.new }
 {
-    if o == st.end {
-        st.end = o + finds::under::def_width(tree, p, rows);
+    let Some(x) = o else {
         return;
+    };
+    if x == st.end {
+        st.end = x + finds::under::def_width(tree, p, rows);
     }
 }
 
 impl Compiler<'_, '_> {
     // Definitions, then a term under them, which has the same number.
     #[cycle(compiling)]
-    fn def(&mut self, tree: &[u8], p: usize, k: usize, o: usize, allowed: u64) -> u64
-        requires { Ready tree.now self.old.rows.now k (p + 1) (end_of tree.now p) self.old.st × Stands tree.now p × Placed o self.old.st × (get_or tree.now p 0 ≡ 0xA9) }
+    fn def(&mut self, tree: &[u8], p: usize, k: usize, o: Option<usize>, allowed: u64) -> u64
+        requires { Ready tree.now self.old.rows.now k (p + 1) (end_of tree.now p) self.old.st × Stands tree.now p × Due o self.old.st × (get_or tree.now p 0 ≡ 0xA9) }
         ensures same { Same self.old self.new }
-        ensures is { Did tree.now p self.old.rows.now self.new.rows.now k o self.old.st self.new.st self.old.out.now self.new.out.now allowed result }
+        ensures is { Did tree.now p self.old.rows.now self.new.rows.now k (at_of o) self.old.st self.new.st self.old.out.now self.new.out.now allowed result }
     {
         let c = self.rows[cells::IN_VIEW];
         let rows = &mut *self.rows;

@@ -3,3 +3,4 @@ pub mod Runs
 pub mod Rooms
 pub mod Calls
 pub mod Pairs
+pub mod Dues

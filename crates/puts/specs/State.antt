@@ -1,6 +1,6 @@
 -- Where the compiler is, and what compiling leaves of it and of the room. Both listings go into one room: of the table something is due there only where the
 -- errors' offset is past its end, of the errors only where the table's is. Assumes nothing.
-use Rattle.std.specs.Prelude.{ℕ, ◌+◌, ◌≤◌, ◌≡◌, cond, List, eqb, length}
+use Rattle.std.specs.Prelude.{ℕ, ◌+◌, ◌≤◌, ◌≡◌, cond, List, eqb, length, Option, Some, None}
 use Rattle.fields.specs.Room.{overlay}
 use Rattle.rules.specs.Table.{Rec, Err}
 use Rattle.rules.specs.Outs.{Out}
@@ -43,6 +43,29 @@ spot_of o x = cond (eqb o late) x o
 
 unfoldable pub next_of : ℕ → ℕ → ℕ → ℕ
 next_of o x w = cond (eqb o late) (x + w) x
+
+-- where an own record is due: at an offset, or, with none, behind what it contains. The same three of that
+unfoldable pub start_at : Option ℕ → ℕ → ℕ → ℕ
+start_at (Some o) m w = start_of o m w
+start_at None m w = m
+
+unfoldable pub spot_at : Option ℕ → ℕ → ℕ
+spot_at (Some o) x = o
+spot_at None x = x
+
+unfoldable pub next_at : Option ℕ → ℕ → ℕ → ℕ
+next_at (Some o) x w = x
+next_at None x w = x + w
+
+-- as a number: none is more than any offset
+abbrev pub at_of : Option ℕ → ℕ
+at_of (Some o) = o
+at_of None = late
+
+-- an offset that is due is not past the next one
+abbrev pub Due : Option ℕ → State → Type 0
+Due (Some o) st = o ≤ off st
+Due None st = Unit {0}
 
 -- the records ms were put at the next offset, with the next numbers, and the errors es
 pub record Put (ms : List Rec) (es : List Err) (st st' : State) (d d' : List ℕ) : Type 0 where

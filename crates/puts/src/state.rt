@@ -2,11 +2,7 @@
 // empty one nothing is written and all is counted; where errors are due, the table's offset is past the room from the start, and where the table is
 // due, the errors' is.
 ghost use Rattle.std.specs.Prelude.{◌≡◌, ◌+◌, ◌<◌, ◌^◌};
-ghost use Rattle.puts.specs.State.{start_of, spot_of, next_of};
-
-// The own record of a term stands at o. Where o is the next offset, the records of its members follow it; where o is LATE, they stand before it.
-// Kept: a number past every offset, as what the rules' proofs say of a place is said of one number: over an Option, each step that places a record would carry that over first.
-pub const LATE: usize = 0x4000_0000_0000_0000;
+ghost use Rattle.puts.specs.State.{at_of, start_at, spot_at, next_at};
 
 #[derive(Clone, Copy)]
 pub struct State {
@@ -18,34 +14,38 @@ pub struct State {
     pub errors: usize,
 }
 
+// The own record of a term is due at o: where o is the next offset, the records of its members follow it; where there is none, they stand before it.
 impl State {
     // Before the members: reserves w bytes for an own record that they follow.
-    pub fn reserve(&mut self, o: usize, w: usize)
-        requires { o + w < 2 ^ 64 }
-        ensures { self.new ≡ record self.old { end = start_of o self.old.end w } }
+    pub fn reserve(&mut self, o: Option<usize>, w: usize)
+        requires { at_of o + w < 2 ^ 64 }
+        ensures { self.new ≡ record self.old { end = start_at o self.old.end w } }
     {
-        if o == self.end {
-            self.end = o + w;
+        let Some(x) = o else {
+            return;
+        };
+        if x == self.end {
+            self.end = x + w;
         }
     }
 
     // After the members: where the own record of w bytes stands.
-    pub fn place(&mut self, o: usize, w: usize) -> usize
+    pub fn place(&mut self, o: Option<usize>, w: usize) -> usize
         requires { self.old.end + w < 2 ^ 64 }
-        ensures { (result ≡ spot_of o self.old.end) × (self.new ≡ record self.old { end = next_of o self.old.end w }) }
+        ensures { (result ≡ spot_at o self.old.end) × (self.new ≡ record self.old { end = next_at o self.old.end w }) }
     {
-        if o == LATE {
-            let x = self.end;
-            self.end = x + w;
+        if let Some(x) = o {
             return x;
         }
-        o
+        let x = self.end;
+        self.end = x + w;
+        x
     }
 
     // Where the own record of a term without members stands.
-    pub fn alone(&mut self, o: usize, w: usize) -> usize
-        requires { (o + w + w < 2 ^ 64) × (self.old.end + w < 2 ^ 64) }
-        ensures { (result ≡ spot_of o (start_of o self.old.end w)) × (self.new ≡ record self.old { end = next_of o (start_of o self.old.end w) w }) }
+    pub fn alone(&mut self, o: Option<usize>, w: usize) -> usize
+        requires { (at_of o + w + w < 2 ^ 64) × (self.old.end + w < 2 ^ 64) }
+        ensures { (result ≡ spot_at o (start_at o self.old.end w)) × (self.new ≡ record self.old { end = next_at o (start_at o self.old.end w) w }) }
     {
         self.reserve(o, w);
         self.place(o, w)

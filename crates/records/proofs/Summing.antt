@@ -2,9 +2,7 @@
 use Prim.Native.Nat.{ℕ, zero, suc, ◌+◌, ◌-◌, ◌*◌, ◌^◌, ◌≤◌, ◌<◌}
 use native.Mathlib.Omega.{arith}
 use mathlib.Core.Path.{◌≡◌, refl, sym, ap, ap₂, subst, ◌∙◌}
-use mathlib.Core.Bool.{Bool, true, false, cond}
 use mathlib.Core.List.{List, [], ◌∷◌, ◌++◌, append-nil}
-use lib.Dec.{eqb}
 use lib.ListN.{length, get_or, drop, length-append, length-drop}
 use lib.Seq.{drop-cons}
 use Rattle.fields.specs.Number.{number}
@@ -12,13 +10,14 @@ use Rattle.fields.specs.Field.{field}
 use Rattle.fields.specs.Room.{overlay, overlay-none}
 use Rattle.puts.specs.Runs.{run-then}
 use Rattle.puts.specs.Rooms.{table-append}
+use Rattle.std.specs.Prelude.{Option, Some, None}
 use Rattle.puts.specs.declared.state.State.{State}
-use Rattle.puts.specs.State.{num, off, late, spot_of, next_of, with_num, with_off}
+use Rattle.puts.specs.State.{num, off, spot_at, next_at, at_of, with_num, with_off}
 use Rattle.rules.specs.Table.{Rec, Node, n_id, n_math}
 use Rattle.rules.specs.Listing.{node_bytes, table_bytes}
 use Rattle.cells.specs.Notes.{summed}
 use Rattle.records.specs.Steps.{Puts}
-use Rattle.records.specs.Sums.{SummandIs, Summands, sizes, SumReady, OwnReady, SumsPut, SumPut}
+use Rattle.records.specs.Sums.{SummandIs, Summands, sizes, SumReady, OwnReady, SumsPut, SumPutAt}
 
 -- ---- a sum's records, one summand more
 
@@ -261,23 +260,23 @@ finish b s f k i st₀ d₀ j st d w g ts p t a l =
 
 -- ---- the sum with its own record, or what stands for none
 
-pub whole_sum : (b s : List ℕ) (f k i o w spot n r : ℕ) (st st₁ st₂ : State) (d d₁ d₂ : List ℕ)
+pub whole_sum : (b s : List ℕ) (f k i : ℕ) (o : Option ℕ) (w spot n r : ℕ) (st st₁ st₂ : State) (d d₁ d₂ : List ℕ)
     → ((ts : List Node) (p : ℕ) (t : Node) → Summands b s f k ts → i ≡ k + length ts → SumsPut p t ts st st₁ d d₁)
-    → n ≡ num st₁ → spot ≡ spot_of o (off st₁) → st₂ ≡ with_off st₁ (next_of o (off st₁) w)
+    → n ≡ num st₁ → spot ≡ spot_at o (off st₁) → st₂ ≡ with_off st₁ (next_at o (off st₁) w)
     → ((ts : List Node) (p m : ℕ) (t : Node) → Summands b s f k ts → i ≡ k + length ts → n ≡ m + length (summed p t m ts).more → Puts (node_bytes 2 (summed p t m ts).self) spot d₁ d₂ r)
-    → (ts : List Node) (p : ℕ) (t : Node) → Summands b s f k ts → i ≡ k + length ts → SumPut p t ts o w st st₂ d d₂
+    → (ts : List Node) (p : ℕ) (t : Node) → Summands b s f k ts → i ≡ k + length ts → SumPutAt p t ts o w st st₂ d d₂
 whole_sum b s f k i o w spot n r st st₁ st₂ d d₁ d₂ u en eo e v ts p t a l =
     let q : SumsPut p t ts st st₁ d d₁ = u ts p t a l in
     let m : n ≡ num st + length (rest p t (num st) ts) = en ∙ ap num q.state in
     let o₁ : off st₁ ≡ off st + length (table_bytes 2 (rest p t (num st) ts)) = ap off q.state in
     let z : Puts (node_bytes 2 (own p t (num st) ts)) spot d₁ d₂ r = v ts p (num st) t a l m in
     record {
-      state = e ∙ ap₂ (λ (y : State) (x : ℕ). with_off y (next_of o x w)) q.state o₁;
-      room = z.room ∙ ap₂ (λ (x : ℕ) (y : List ℕ). overlay y x (node_bytes 2 (own p t (num st) ts))) (eo ∙ ap (spot_of o) o₁) q.room;
+      state = e ∙ ap₂ (λ (y : State) (x : ℕ). with_off y (next_at o x w)) q.state o₁;
+      room = z.room ∙ ap₂ (λ (x : ℕ) (y : List ℕ). overlay y x (node_bytes 2 (own p t (num st) ts))) (eo ∙ ap (spot_at o) o₁) q.room;
     }
 
-pub no-sum : (k i o w spot tag : ℕ) (st st₁ : State) (d d₁ : List ℕ) → i ≤ k → spot ≡ spot_of o (off st) → st₁ ≡ with_off st (next_of o (off st) w) → d₁ ≡ overlay d spot (field tag [])
-    → (ts : List Node) (p : ℕ) (t : Node) → i ≡ k + length ts → node_bytes 2 t ≡ field tag [] → SumPut p t ts o w st st₁ d d₁
+pub no-sum : (k i : ℕ) (o : Option ℕ) (w spot tag : ℕ) (st st₁ : State) (d d₁ : List ℕ) → i ≤ k → spot ≡ spot_at o (off st) → st₁ ≡ with_off st (next_at o (off st) w) → d₁ ≡ overlay d spot (field tag [])
+    → (ts : List Node) (p : ℕ) (t : Node) → i ≡ k + length ts → node_bytes 2 t ≡ field tag [] → SumPutAt p t ts o w st st₁ d d₁
 unfolding summed
 no-sum k i o w spot tag st st₁ d d₁ h eo e g [] p t l u =
     let n : num st + 0 ≡ num st = omega arith in
@@ -288,24 +287,21 @@ no-sum k i o w spot tag st st₁ d d₁ h eo e g [] p t l u =
     }
 no-sum k i o w spot tag st st₁ d d₁ h eo e g (x ∷ ts) p t l u = absurd (omega arith)
 
-pub spot-least : (o x : ℕ) → spot_of o x ≤ o + x
-unfolding spot_of
-spot-least o x = go (eqb o late)
-  where
-    go : (t : Bool) → cond t x o ≤ o + x
-    go true = omega arith
-    go false = omega arith
+pub spot-least : (o : Option ℕ) (x : ℕ) → spot_at o x ≤ at_of o + x
+unfolding spot_at
+spot-least (Some o) x = omega arith
+spot-least None x = omega arith
 
 pub less-room : (b s : List ℕ) (f k i x y : ℕ) → SumReady b s f k i x → y ≤ x → SumReady b s f k i y
 less-room b s f k i x y r h = record { ts = r.ts; are = r.are; notes = r.notes; rows = r.rows; room = omega (arith, r.room) }
 
 -- what `sum_or` asks for
-pub record Whole (b s : List ℕ) (f k i o w : ℕ) (st st₁ : State) : Type 0 where
+pub record Whole (b s : List ℕ) (f k i : ℕ) (o : Option ℕ) (w : ℕ) (st st₁ : State) : Type 0 where
   pub place : off st₁ + w < 2 ^ 64
-  pub sum : OwnReady b s f k i (spot_of o (off st₁))
+  pub sum : OwnReady b s f k i (spot_at o (off st₁))
   pub two : k + 1 < i → 2 ≤ num st₁
 
-pub whole-asks : (b s : List ℕ) (f k i o w : ℕ) (st st₁ : State) (d d₁ : List ℕ) → k < i → SumReady b s f k i (o + off st + w + 3)
+pub whole-asks : (b s : List ℕ) (f k i : ℕ) (o : Option ℕ) (w : ℕ) (st st₁ : State) (d d₁ : List ℕ) → k < i → SumReady b s f k i (at_of o + off st + w + 3)
     → ((ts : List Node) (p : ℕ) (t : Node) → Summands b s f k ts → i ≡ k + length ts → SumsPut p t ts st st₁ d d₁) → Whole b s f k i o w st st₁
 whole-asks b s f k i o w st st₁ d d₁ g r u =
     record {

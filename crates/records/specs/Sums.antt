@@ -1,12 +1,13 @@
 -- Sums: what is put for the parts of a string and the entries of an object, by their notes. Assumes nothing.
-use Rattle.std.specs.Prelude.{ℕ, suc, ◌+◌, ◌*◌, ◌^◌, ◌≤◌, ◌<◌, ◌≡◌, refl, ◌⊎◌, List, [], ◌∷◌, length}
-use Rattle.std.proofs.Common.{arith, inl, inr}
+use Rattle.std.specs.Prelude.{ℕ, suc, ◌+◌, ◌*◌, ◌^◌, ◌≤◌, ◌<◌, ◌≡◌, refl, ◌⊎◌, List, [], ◌∷◌, length, Option}
+use Rattle.std.proofs.Common.{arith, ap, ◌∙◌, inl, inr}
 use Rattle.fields.specs.Room.{overlay}
 use Rattle.tree.specs.Tree.{StrPart, StrParts, s_nil, s_cons, Entries, es_nil, es_cons}
 use Rattle.rules.specs.Table.{Node, n_id, n_obj_single}
 use Rattle.rules.specs.Listing.{node_bytes, table_bytes}
 use Rattle.puts.specs.declared.state.State.{State}
-use Rattle.puts.specs.State.{num, off, spot_of, next_of, with_num, with_off}
+use Rattle.puts.specs.State.{num, off, late, spot_of, next_of, spot_at, next_at, at_of, Due, with_num, with_off}
+use Rattle.puts.specs.Dues.{nexted, spotted}
 use Rattle.reads.specs.Shapes.{StrPartAt}
 use Rattle.cells.specs.Cells.{number_at, last_at, kind_at}
 use Rattle.cells.specs.Notes.{string_node, string_nodes, entry_nodes, summed}
@@ -76,6 +77,20 @@ pub record SumsPut (p : ℕ) (t : Node) (ts : List Node) (st st' : State) (d d' 
 
 -- ---- what `sum_or` leaves: the records of the sum from the next offset on, and its own where it belongs. t is what stands for none, p any place
 
+pub record SumPutAt (p : ℕ) (t : Node) (ts : List Node) (o : Option ℕ) (w : ℕ) (st st' : State) (d d' : List ℕ) : Type 0 where
+  pub state : st' ≡ with_off (with_num st (num st + length (summed p t (num st) ts).more)) (next_at o (off st + length (table_bytes 2 (summed p t (num st) ts).more)) w)
+  pub room : d' ≡ overlay (overlay d (off st) (table_bytes 2 (summed p t (num st) ts).more)) (spot_at o (off st + length (table_bytes 2 (summed p t (num st) ts).more))) (node_bytes 2 (summed p t (num st) ts).self)
+
+-- the same, the place of its own record being told by a number
+
 pub record SumPut (p : ℕ) (t : Node) (ts : List Node) (o w : ℕ) (st st' : State) (d d' : List ℕ) : Type 0 where
   pub state : st' ≡ with_off (with_num st (num st + length (summed p t (num st) ts).more)) (next_of o (off st + length (table_bytes 2 (summed p t (num st) ts).more)) w)
   pub room : d' ≡ overlay (overlay d (off st) (table_bytes 2 (summed p t (num st) ts).more)) (spot_of o (off st + length (table_bytes 2 (summed p t (num st) ts).more))) (node_bytes 2 (summed p t (num st) ts).self)
+
+pub sum-at : (p : ℕ) (t : Node) (ts : List Node) (o : Option ℕ) (w : ℕ) (st₀ st st' : State) (d d' : List ℕ) → Due o st₀ → off st₀ < late → SumPutAt p t ts o w st st' d d' → SumPut p t ts (at_of o) w st st' d d'
+sum-at p t ts o w st₀ st st' d d' u l s =
+    let m = off st + length (table_bytes 2 (summed p t (num st) ts).more) in
+    record {
+      state = s.state ∙ ap (with_off (with_num st (num st + length (summed p t (num st) ts).more))) (nexted o m w st₀ u l);
+      room = s.room ∙ ap (λ (x : ℕ). overlay (overlay d (off st) (table_bytes 2 (summed p t (num st) ts).more)) x (node_bytes 2 (summed p t (num st) ts).self)) (spotted o m st₀ u l);
+    }

@@ -19,7 +19,7 @@ ghost use Rattle.reads.specs.Widths.{pat_width, parts_width, fold_width};
 ghost use Rattle.reads.specs.Kinds.{fold_number};
 ghost use Rattle.reads.specs.Shapes.{PartAt, StrPartAt};
 ghost use Rattle.puts.specs.Calls.{call_number};
-ghost use Rattle.puts.specs.State.{num, off, ers};
+ghost use Rattle.puts.specs.State.{num, off, ers, at_of};
 ghost use Rattle.cells.specs.Cells.{number_at, last_at, before_at};
 ghost use Rattle.cells.specs.Notes.{pat_at, steps_at, pairs_at, string_node, summed};
 ghost use Rattle.finds.specs.Numbers.{numbers};
@@ -28,7 +28,7 @@ ghost use Rattle.records.specs.Operators.{op_tag, op_choice};
 ghost use Rattle.records.specs.Patterns.{PatReady, PatPut, HoldsPat, folding_of, fold_node, HoldsFold};
 ghost use Rattle.records.specs.Bounds.{bound_of};
 ghost use Rattle.records.specs.Steps.{Puts, PartPut, PartsReady, PathReady};
-ghost use Rattle.records.specs.Sums.{SummandIs, Summands, SumReady, OwnReady, SumsPut, SumPut};
+ghost use Rattle.records.specs.Sums.{SummandIs, Summands, SumReady, OwnReady, SumsPut, SumPutAt};
 ghost use Rattle.records.specs.Calls.{args_at, def_bytes, ArgsReady, CallReady, CallPut, Failed};
 
 use cells::{RowKind, last, number};
@@ -365,11 +365,11 @@ pub fn sum_or(
     tag: u8,
     st: &mut State,
     out: &mut [u8],
-    o: usize,
+    o: Option<usize>,
     w: usize,
 )
-    requires { (k ≤ i) × SumReady tree.now rows.now f k i (o + off st.old + w + 3) × (num st.old + 2 * (i - k) < 2 ^ 64) }
-    ensures { (ts : List Node) (p : ℕ) (t : Node) → Summands tree.now rows.now f k ts → i ≡ k + length ts → node_bytes 2 t ≡ field tag [] → SumPut p t ts o w st.old st.new out.old out.new }
+    requires { (k ≤ i) × SumReady tree.now rows.now f k i (at_of o + off st.old + w + 3) × (num st.old + 2 * (i - k) < 2 ^ 64) }
+    ensures { (ts : List Node) (p : ℕ) (t : Node) → Summands tree.now rows.now f k ts → i ≡ k + length ts → node_bytes 2 t ≡ field tag [] → SumPutAt p t ts o w st.old st.new out.old out.new }
 {
     if k < i {
         sums(tree, rows, k, i, f, st, out);

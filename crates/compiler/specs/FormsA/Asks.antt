@@ -8,7 +8,9 @@ use Rattle.tree.specs.Tree.{Branches, b_pair}
 use Rattle.tree.specs.Form.{f_branches}
 use Rattle.reads.specs.Shapes.{on-label, on-ite, term_fits}
 use Rattle.puts.specs.declared.state.State.{State}
-use Rattle.puts.specs.State.{num, off, late, start_of, spot_of, next_of, with_off, with_ers}
+use Rattle.std.specs.Prelude.{Option}
+use Rattle.puts.specs.Dues.{spot-most, start-most}
+use Rattle.puts.specs.State.{spot_at, start_at, next_at, at_of, num, off, late, start_of, spot_of, next_of, with_off, with_ers}
 use Rattle.cells.specs.Cells.{View, Seen, Room, Opened, bound_as, noted, closed, kind_at, head_at}
 use Rattle.cells.specs.Leaving.{length-closed}
 use Rattle.cells.specs.Notes.{elses_of, pairs_at, pair_count}
@@ -203,15 +205,11 @@ spot-of o m w x e = go (eqb o late) e
     go true i = inl (omega (arith, i, (start-le o m w).1))
     go false i = inr i
 
-pub bare-spot : (o x : ℕ) (st : State) → o + 3 < 2 ^ 63 → off st + 3 < 2 ^ 63 → x ≡ spot_of o (start_of o (off st) 3) → x + 3 < 2 ^ 64
-bare-spot o x st h l e = go (spot-of o (off st) 3 x e)
-  where
-    go : (x ≤ off st + 3) ⊎ (x ≡ o) → x + 3 < 2 ^ 64
-    go (inl i) = omega (arith, i, l)
-    go (inr i) = omega (arith, i, h)
+pub bare-spot : (o : Option ℕ) (x : ℕ) (st : State) → at_of o + 3 < 2 ^ 63 → off st + 3 < 2 ^ 63 → x ≡ spot_at o (start_at o (off st) 3) → x + 3 < 2 ^ 64
+bare-spot o x st h l e = omega (arith, e, spot-most o (start_at o (off st) 3) (2 ^ 63) (omega (arith, h)) (omega (arith, l, start-most o (off st) 3)))
 
-pub bare-is : (o x tag : ℕ) (st st₁ : State) (d d₁ : List ℕ) → (x ≡ spot_of o (start_of o (off st) 3)) × (st₁ ≡ with_off st (next_of o (start_of o (off st) 3) 3)) → d₁ ≡ overlay d x (field tag [])
-    → (◌≡◌ {A = ℕ} 0 0) × (st₁ ≡ with_off st (next_of o (start_of o (off st) 3) 3)) × (d₁ ≡ overlay d (spot_of o (start_of o (off st) 3)) (field tag []))
+pub bare-is : (o : Option ℕ) (x tag : ℕ) (st st₁ : State) (d d₁ : List ℕ) → (x ≡ spot_at o (start_at o (off st) 3)) × (st₁ ≡ with_off st (next_at o (start_at o (off st) 3) 3)) → d₁ ≡ overlay d x (field tag [])
+    → (◌≡◌ {A = ℕ} 0 0) × (st₁ ≡ with_off st (next_at o (start_at o (off st) 3) 3)) × (d₁ ≡ overlay d (spot_at o (start_at o (off st) 3)) (field tag []))
 bare-is o x tag st st₁ d d₁ m e = (refl, m.1, e ∙ ap (λ (y : ℕ). overlay d y (field tag [])) m.0)
 
 pub alone-small : (o w : ℕ) (st : State) → Placed o st → off st ≤ 2 ^ 36 → w ≤ 2097152 → (o + w + w < 2 ^ 64) × (off st + w < 2 ^ 64)

@@ -452,7 +452,7 @@ module _ (b s : List ℕ) (k p o : ℕ) (st st₁ : State) (tg : get_or b p 0 �
     pub def-within : r.q < length b
     def-within = omega (arith, term-at.1, under.1)
 
-    grown : off st ≤ off st₂
+    pub grown : off st ≤ off st₂
     grown = omega (arith, stored.off, start-low o (off st) width, there.0.offs)
 
     pub def_body : Placed o st → Ready b s₁ r.k (r.q + 1) (end_of b r.q) st₂ × Stands b r.q × Placed o st₂

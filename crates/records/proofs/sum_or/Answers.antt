@@ -9,10 +9,10 @@ pub sums-requires : goal.sums-requires
 sums-requires c = let r = c.requires in (c.if-k-i.true, less-room _ _ _ _ _ _ _ r.1 (omega arith), r.2)
 
 pub place-requires : goal.place-requires
-place-requires c = let r = c.requires in (whole-asks _ _ _ _ _ _ _ _ _ _ _ c.if-k-i.true r.1 c.sums.ensures).place
+place-requires c = let r = c.requires in (whole-asks _ _ _ _ _ c.args.o _ _ _ _ _ c.if-k-i.true r.1 c.sums.ensures).place
 
 pub put_sum-requires : goal.put_sum-requires
-put_sum-requires c = let r = c.requires in let a = whole-asks _ _ _ _ _ _ _ _ _ _ _ c.if-k-i.true r.1 c.sums.ensures in (c.if-k-i.true, rw c.place.ensures.0 a.sum, a.two)
+put_sum-requires c = let r = c.requires in let a = whole-asks _ _ _ _ _ c.args.o _ _ _ _ _ c.if-k-i.true r.1 c.sums.ensures in (c.if-k-i.true, rw c.place.ensures.0 a.sum, a.two)
 
 pub returns-then-k-i : goal.returns-then-k-i
 returns-then-k-i c = λ ts p t a l u. whole_sum _ _ _ _ _ _ _ _ _ _ _ _ _ _ _ _ c.sums.ensures refl c.place.ensures.0 c.place.ensures.1 c.put_sum.ensures ts p t a l

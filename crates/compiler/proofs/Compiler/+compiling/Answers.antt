@@ -28,13 +28,16 @@ use mathlib.Core.Path.{sym, ◌∙◌}
 use Rattle.finds.specs.Numbers.{numbers}
 use Rattle.compiler.specs.FormsC.Paths as forms_paths
 use Rattle.compiler.specs.FormsD.Calls.{membered, call-here, call-members, call-name, call-short, call_known, call-reserve, call-ready, call-fail, call-place, call-put, call-did}
-use Rattle.compiler.specs.FormsD.Defs.{ready-cells, def-ready, def_body, def-within, further, def-close, def-did}
+use Rattle.compiler.specs.FormsD.Defs.{ready-cells, grown, def-ready, def_body, def-within, further, def-close, def-did}
 use Rattle.compiler.specs.FormsD.Defs.{ready-cells, scoping-start, scoping-fits, scoping-ready, scoping-more, scoping-done}
 use Rattle.compiler.specs.FormsC.Objects as forms_objects
 use Rattle.reads.specs.Shapes.{term_fits}
 use Rattle.compiler.specs.FormsC.Noting as noting
 use mathlib.Core.Path.{refl}
-use Rattle.compiler.specs.Moves.{ready-part}
+use Rattle.compiler.specs.Moves.{ready-part, ready-low}
+use Rattle.std.specs.Prelude.{Some, None}
+use Rattle.puts.specs.Dues.{due-placed, due-on, reserve-of, place-spot, place-next, bare-of}
+use Rattle.records.specs.Sums.{sum-at}
 use Rattle.compiler.specs.FormsD.Defs.{ready-cells, open_at, open-params, open-known, open-rows, open-enter, open-body, open-leave, open-push, open-did}
 use Prim.Native.Nat.{ℕ, ◌+◌, ◌-◌, ◌≤◌}
 use mathlib.Core.Bool.{true}
@@ -76,7 +79,7 @@ arr-reserve-requires t c =
     let g = c.requires.1 in
     let e = c.requires.3 in
     let f = asks.stands-fits _ _ g in
-    asks.reserve-fits _ _ _ _ _ _ _ _ y c.requires.2 (omega arith)
+    asks.reserve-fits _ _ _ _ _ _ _ _ y (due-placed c.args.o c.args.self.now.st c.requires.2) (omega arith)
 
 pub arr-end_of-requires : goal.arr-end_of-requires
 arr-end_of-requires t c =
@@ -92,7 +95,7 @@ arr-or_empty-requires t c =
     let g = c.requires.1 in
     let e = c.requires.3 in
     let f = asks.stands-fits _ _ g in
-    let w = simple.arr-ready _ _ _ _ _ _ _ e y g c.reserve.ensures in
+    let w = simple.arr-ready _ _ _ _ _ _ _ e y g (reserve-of c.args.o _ c.args.self.now.st _ (ready-low _ _ _ _ _ _ c.requires.0) c.reserve.ensures) in
     (omega (arith, c.decreases, f), simple.arr-at _ _ _ _ _ c.end_of.ensures w)
 
 pub arr-place-requires : goal.arr-place-requires
@@ -101,7 +104,7 @@ arr-place-requires t c =
     let g = c.requires.1 in
     let e = c.requires.3 in
     let f = asks.stands-fits _ _ g in
-    asks.place-or _ _ _ _ _ _ _ _ _ _ _ _ _ _ _ _ _ y c.reserve.ensures (omega arith) c.or_empty.ensures.is (omega (arith, c.end_of.ensures, f))
+    asks.place-or _ _ _ _ _ _ _ _ _ _ _ _ _ _ _ _ _ y (reserve-of c.args.o _ c.args.self.now.st _ (ready-low _ _ _ _ _ _ c.requires.0) c.reserve.ensures) (omega arith) c.or_empty.ensures.is (omega (arith, c.end_of.ensures, f))
 
 pub arr-put_one-requires : goal.arr-put_one-requires
 arr-put_one-requires t c =
@@ -109,7 +112,7 @@ arr-put_one-requires t c =
     let g = c.requires.1 in
     let e = c.requires.3 in
     let f = asks.stands-fits _ _ g in
-    asks.own-or _ _ _ _ _ _ _ _ _ _ _ _ _ _ _ _ _ _ y c.requires.2 c.reserve.ensures (omega arith) c.or_empty.ensures.is (omega (arith, c.end_of.ensures, f)) c.place.ensures.0
+    asks.own-or _ _ _ _ _ _ _ _ _ _ _ _ _ _ _ _ _ _ y (due-placed c.args.o c.args.self.now.st c.requires.2) (reserve-of c.args.o _ c.args.self.now.st _ (ready-low _ _ _ _ _ _ c.requires.0) c.reserve.ensures) (omega arith) c.or_empty.ensures.is (omega (arith, c.end_of.ensures, f)) (place-spot c.args.o _ _ c.args.self.now.st c.requires.2 (ready-low _ _ _ _ _ _ c.requires.0) c.place.ensures.0)
 
 pub arr-returns-clause-is : goal.arr-returns-clause-is
 arr-returns-clause-is t c =
@@ -117,7 +120,7 @@ arr-returns-clause-is t c =
     let g = c.requires.1 in
     let e = c.requires.3 in
     let f = asks.stands-fits _ _ g in
-    simple.arr-did _ _ _ _ _ _ _ _ _ _ _ _ _ _ _ e y g c.reserve.ensures refl (simple.arr-or _ _ _ _ _ _ _ _ _ c.end_of.ensures c.or_empty.ensures.is) c.place.ensures.0 c.place.ensures.1 c.put_one.ensures
+    simple.arr-did _ _ _ _ _ _ _ _ _ _ _ _ _ _ _ e y g (reserve-of c.args.o _ c.args.self.now.st _ (ready-low _ _ _ _ _ _ c.requires.0) c.reserve.ensures) refl (simple.arr-or _ _ _ _ _ _ _ _ _ c.end_of.ensures c.or_empty.ensures.is) (place-spot c.args.o _ _ c.args.self.now.st c.requires.2 (ready-low _ _ _ _ _ _ c.requires.0) c.place.ensures.0) (place-next c.args.o _ c.args.self.now.st _ _ c.requires.2 (ready-low _ _ _ _ _ _ c.requires.0) c.place.ensures.1) c.put_one.ensures
 
 pub binary-overflow_add-p : goal.binary-overflow_add-p
 binary-overflow_add-p t c =
@@ -195,7 +198,7 @@ binop-bounds-tree-q t c =
 pub binop-reserve-requires : goal.binop-reserve-requires
 binop-reserve-requires t c =
     let y = c.requires.0 in
-    asks_b.reserve-room _ _ _ _ _ _ _ _ y c.requires.2 (omega (arith, c.op_width-w.ensures, ops.op-small (get_or c.args.tree.now (c.args.q + 3) 0)))
+    asks_b.reserve-room _ _ _ _ _ _ _ _ y (due-placed c.args.o c.args.self.now.st c.requires.2) (omega (arith, c.op_width-w.ensures, ops.op-small (get_or c.args.tree.now (c.args.q + 3) 0)))
 
 pub binop-overflow_add-p : goal.binop-overflow_add-p
 binop-overflow_add-p t c =
@@ -205,7 +208,7 @@ binop-overflow_add-p t c =
 pub binop-iterm-s-requires : goal.binop-iterm-s-requires
 binop-iterm-s-requires t c =
     let y = c.requires.0 in
-    (omega (arith, c.decreases, y.within), ops.binop-left _ _ _ (get_or c.args.tree.now (c.args.q + 3) 0) _ _ _ _ _ _ c.requires.3 c.requires.4 c.requires.5 refl y c.requires.1 c.op_width-w.ensures c.reserve.ensures)
+    (omega (arith, c.decreases, y.within), ops.binop-left _ _ _ (get_or c.args.tree.now (c.args.q + 3) 0) _ _ _ _ _ _ c.requires.3 c.requires.4 c.requires.5 refl y c.requires.1 c.op_width-w.ensures (reserve-of c.args.o _ c.args.self.now.st _ (ready-low _ _ _ _ _ _ c.requires.0) c.reserve.ensures))
 
 pub binop-overflow_add-q : goal.binop-overflow_add-q
 binop-overflow_add-q t c =
@@ -223,25 +226,25 @@ pub binop-iterm-t-requires : goal.binop-iterm-t-requires
 binop-iterm-t-requires t c =
     let y = c.requires.0 in
     let rd = asks_b.binop-read _ _ _ c.requires.3 c.requires.4 c.requires.5 c.requires.1 in
-    (omega (arith, c.decreases, c.requires.4, rd.0), ops.binop-right _ _ _ (get_or c.args.tree.now (c.args.q + 3) 0) _ _ _ _ _ _ c.requires.3 c.requires.4 c.requires.5 refl y c.requires.1 c.op_width-w.ensures c.reserve.ensures _ _ _ _ _ _ c.iterm-s.ensures.is)
+    (omega (arith, c.decreases, c.requires.4, rd.0), ops.binop-right _ _ _ (get_or c.args.tree.now (c.args.q + 3) 0) _ _ _ _ _ _ c.requires.3 c.requires.4 c.requires.5 refl y c.requires.1 c.op_width-w.ensures (reserve-of c.args.o _ c.args.self.now.st _ (ready-low _ _ _ _ _ _ c.requires.0) c.reserve.ensures) _ _ _ _ _ _ c.iterm-s.ensures.is)
 
 pub binop-place-requires : goal.binop-place-requires
 binop-place-requires t c =
     let y = c.requires.0 in
-    omega (arith, (asks_b.binop-put _ _ _ _ _ _ _ _ _ c.requires.3 c.requires.4 c.requires.5 y c.requires.1 c.op_width-w.ensures c.reserve.ensures _ _ 0 _ _ _ _ _ _ _ _ _ c.requires.2 c.iterm-s.ensures.is c.iterm-t.ensures.is).0)
+    omega (arith, (asks_b.binop-put _ _ _ _ _ _ _ _ _ c.requires.3 c.requires.4 c.requires.5 y c.requires.1 c.op_width-w.ensures (reserve-of c.args.o _ c.args.self.now.st _ (ready-low _ _ _ _ _ _ c.requires.0) c.reserve.ensures) _ _ 0 _ _ _ _ _ _ _ _ _ (due-placed c.args.o c.args.self.now.st c.requires.2) c.iterm-s.ensures.is c.iterm-t.ensures.is).0)
 
 pub binop-put_op-requires : goal.binop-put_op-requires
 binop-put_op-requires t c =
     let y = c.requires.0 in
     let rd = asks_b.binop-read _ _ _ c.requires.3 c.requires.4 c.requires.5 c.requires.1 in
-    let r = asks_b.binop-put _ _ _ _ _ _ _ _ _ c.requires.3 c.requires.4 c.requires.5 y c.requires.1 c.op_width-w.ensures c.reserve.ensures _ _ _ _ _ _ _ _ _ _ _ _ c.requires.2 c.iterm-s.ensures.is c.iterm-t.ensures.is in
-    let z = r.1 c.place.ensures.0 in
+    let r = asks_b.binop-put _ _ _ _ _ _ _ _ _ c.requires.3 c.requires.4 c.requires.5 y c.requires.1 c.op_width-w.ensures (reserve-of c.args.o _ c.args.self.now.st _ (ready-low _ _ _ _ _ _ c.requires.0) c.reserve.ensures) _ _ _ _ _ _ _ _ _ _ _ _ (due-placed c.args.o c.args.self.now.st c.requires.2) c.iterm-s.ensures.is c.iterm-t.ensures.is in
+    let z = r.1 (place-spot c.args.o _ _ c.args.self.now.st c.requires.2 (ready-low _ _ _ _ _ _ c.requires.0) c.place.ensures.0) in
     (omega (arith, z, r.2), rd.1)
 
 pub binop-returns-clause-is : goal.binop-returns-clause-is
 binop-returns-clause-is t c =
     let y = c.requires.0 in
-    asks_b.binop-ret _ _ _ _ _ _ _ _ _ c.requires.3 c.requires.4 c.requires.5 y c.requires.1 c.op_width-w.ensures c.reserve.ensures _ _ _ _ _ _ _ _ _ _ _ _ _ _ _ _ _ refl c.left_set.ensures c.iterm-s.ensures.is refl c.right_set.ensures c.iterm-t.ensures.is c.place.ensures.0 c.place.ensures.1 c.put_op.ensures
+    asks_b.binop-ret _ _ _ _ _ _ _ _ _ c.requires.3 c.requires.4 c.requires.5 y c.requires.1 c.op_width-w.ensures (reserve-of c.args.o _ c.args.self.now.st _ (ready-low _ _ _ _ _ _ c.requires.0) c.reserve.ensures) _ _ _ _ _ _ _ _ _ _ _ _ _ _ _ _ _ refl c.left_set.ensures c.iterm-s.ensures.is refl c.right_set.ensures c.iterm-t.ensures.is (place-spot c.args.o _ _ c.args.self.now.st c.requires.2 (ready-low _ _ _ _ _ _ c.requires.0) c.place.ensures.0) (place-next c.args.o _ c.args.self.now.st _ _ c.requires.2 (ready-low _ _ _ _ _ _ c.requires.0) c.place.ensures.1) c.put_op.ensures
 
 pub bound-is_tag-requires : goal.bound-is_tag-requires
 bound-is_tag-requires t c =
@@ -324,37 +327,37 @@ pub call-reserve-requires : goal.call-reserve-requires
 call-reserve-requires t c = let y = c.requires.0 in
     let h = membered _ _ _ _ _ c.end_of.ensures c.members-a.ensures in
     let k = call_known _ _ _ _ c.requires.3 c.requires.1 c.end_of-q.ensures h in
-    call-reserve _ _ _ _ _ _ _ _ (numbers c.meaning-f.result) _ k y c.requires.2 c.call_width-w.ensures
+    call-reserve _ _ _ _ _ _ _ _ (numbers c.meaning-f.result) _ k y (due-placed c.args.o c.args.self.now.st c.requires.2) c.call_width-w.ensures
 
 pub call-args-requires : goal.call-args-requires
 call-args-requires t c = let y = c.requires.0 in
     let h = membered _ _ _ _ _ c.end_of.ensures c.members-a.ensures in
     let k = call_known _ _ _ _ c.requires.3 c.requires.1 c.end_of-q.ensures h in
-    (omega (arith, c.decreases, k.low, k.high, k.fits), call-ready _ _ _ _ _ _ _ _ (numbers c.meaning-f.result) _ _ k y c.call_width-w.ensures c.reserve.ensures)
+    (omega (arith, c.decreases, k.low, k.high, k.fits), call-ready _ _ _ _ _ _ _ _ (numbers c.meaning-f.result) _ _ k y c.call_width-w.ensures (reserve-of c.args.o _ c.args.self.now.st _ (ready-low _ _ _ _ _ _ c.requires.0) c.reserve.ensures))
 
 pub call-fail-requires : goal.call-fail-requires
 call-fail-requires t c = let y = c.requires.0 in
     let h = membered _ _ _ _ _ c.end_of.ensures c.members-a.ensures in
     let k = call_known _ _ _ _ c.requires.3 c.requires.1 c.end_of-q.ensures h in
-    call-fail _ _ _ _ _ _ _ _ _ (numbers c.meaning-f.result) _ _ _ _ _ k y c.call_width-w.ensures c.reserve.ensures c.args-2.ensures.is
+    call-fail _ _ _ _ _ _ _ _ _ (numbers c.meaning-f.result) _ _ _ _ _ k y c.call_width-w.ensures (reserve-of c.args.o _ c.args.self.now.st _ (ready-low _ _ _ _ _ _ c.requires.0) c.reserve.ensures) c.args-2.ensures.is
 
 pub call-place-requires : goal.call-place-requires
 call-place-requires t c = let y = c.requires.0 in
     let h = membered _ _ _ _ _ c.end_of.ensures c.members-a.ensures in
     let k = call_known _ _ _ _ c.requires.3 c.requires.1 c.end_of-q.ensures h in
-    call-place _ _ _ _ _ _ _ _ _ _ _ _ _ _ _ k y c.call_width-w.ensures c.reserve.ensures c.args-2.ensures.is _ _ c.fail.ensures
+    call-place _ _ _ _ _ _ _ _ _ _ _ _ _ _ _ k y c.call_width-w.ensures (reserve-of c.args.o _ c.args.self.now.st _ (ready-low _ _ _ _ _ _ c.requires.0) c.reserve.ensures) c.args-2.ensures.is _ _ c.fail.ensures
 
 pub call-put_call-requires : goal.call-put_call-requires
 call-put_call-requires t c = let y = c.requires.0 in
     let h = membered _ _ _ _ _ c.end_of.ensures c.members-a.ensures in
     let k = call_known _ _ _ _ c.requires.3 c.requires.1 c.end_of-q.ensures h in
-    call-put _ _ _ _ _ _ _ _ _ _ _ _ _ _ _ k y c.call_width-w.ensures c.reserve.ensures c.args-2.ensures.is _ _ c.fail.ensures _ _ c.meaning-f.ensures c.requires.2 _ c.place.ensures.0
+    call-put _ _ _ _ _ _ _ _ _ _ _ _ _ _ _ k y c.call_width-w.ensures (reserve-of c.args.o _ c.args.self.now.st _ (ready-low _ _ _ _ _ _ c.requires.0) c.reserve.ensures) c.args-2.ensures.is _ _ c.fail.ensures _ _ c.meaning-f.ensures (due-placed c.args.o c.args.self.now.st c.requires.2) _ (place-spot c.args.o _ _ c.args.self.now.st c.requires.2 (ready-low _ _ _ _ _ _ c.requires.0) c.place.ensures.0)
 
 pub call-returns-clause-is : goal.call-returns-clause-is
 call-returns-clause-is t c = let y = c.requires.0 in
     let h = membered _ _ _ _ _ c.end_of.ensures c.members-a.ensures in
     let k = call_known _ _ _ _ c.requires.3 c.requires.1 c.end_of-q.ensures h in
-    call-did _ _ _ _ _ _ _ _ _ _ _ _ _ _ _ _ _ _ _ _ _ _ _ c.requires.3 y c.requires.1 c.end_of-q.ensures h (call-name _ _ _ c.end_of-q.ensures) c.meaning-f.ensures c.call_width-w.ensures c.reserve.ensures c.args-2.ensures.is c.fail.ensures c.place.ensures.0 c.place.ensures.1 c.put_call.ensures
+    call-did _ _ _ _ _ _ _ _ _ _ _ _ _ _ _ _ _ _ _ _ _ _ _ c.requires.3 y c.requires.1 c.end_of-q.ensures h (call-name _ _ _ c.end_of-q.ensures) c.meaning-f.ensures c.call_width-w.ensures (reserve-of c.args.o _ c.args.self.now.st _ (ready-low _ _ _ _ _ _ c.requires.0) c.reserve.ensures) c.args-2.ensures.is c.fail.ensures (place-spot c.args.o _ _ c.args.self.now.st c.requires.2 (ready-low _ _ _ _ _ _ c.requires.0) c.place.ensures.0) (place-next c.args.o _ c.args.self.now.st _ _ c.requires.2 (ready-low _ _ _ _ _ _ c.requires.0) c.place.ensures.1) c.put_call.ensures
 
 pub def-bounds-self-1 : goal.def-bounds-self-1
 def-bounds-self-1 t c = omega (arith, (ready-cells _ _ _ _ _ _ c.requires.0).0)
@@ -374,7 +377,7 @@ pub def-term-t-requires : goal.def-term-t-requires
 def-term-t-requires t c = let y = c.requires.0 in
     let v = c.reserve_def.ensures in
     let g = c.defs-g.ensures.is in
-    (omega (arith, c.decreases, further _ _ _ _ _ _ _ c.requires.3 y c.requires.1 v _ _ _ _ _ _ g, def-within _ _ _ _ _ _ _ c.requires.3 y c.requires.1 v _ _ _ _ _ _ g), def_body _ _ _ _ _ _ _ c.requires.3 y c.requires.1 v _ _ _ _ _ _ g c.requires.2)
+    (omega (arith, c.decreases, further _ _ _ _ _ _ _ c.requires.3 y c.requires.1 v _ _ _ _ _ _ g, def-within _ _ _ _ _ _ _ c.requires.3 y c.requires.1 v _ _ _ _ _ _ g), let d = def_body _ _ _ _ _ _ _ c.requires.3 y c.requires.1 v _ _ _ _ _ _ g (due-placed c.args.o c.args.self.now.st c.requires.2) in (d.0, d.1, due-on c.args.o c.args.self.now.st _ c.requires.2 (grown _ _ _ _ _ _ _ c.requires.3 y c.requires.1 v _ _ _ _ _ _ g)))
 
 pub def-close-requires : goal.def-close-requires
 def-close-requires t c = let y = c.requires.0 in
@@ -384,7 +387,7 @@ def-close-requires t c = let y = c.requires.0 in
 pub def-returns-clause-is : goal.def-returns-clause-is
 def-returns-clause-is t c = let y = c.requires.0 in
     let v = c.reserve_def.ensures in
-    def-did _ _ _ _ _ _ _ c.requires.3 y c.requires.1 v _ _ _ _ _ _ c.defs-g.ensures.is _ _ _ _ c.term-t.ensures.is c.requires.2 _ c.close.ensures
+    def-did _ _ _ _ _ _ _ c.requires.3 y c.requires.1 v _ _ _ _ _ _ c.defs-g.ensures.is _ _ _ _ c.term-t.ensures.is (due-placed c.args.o c.args.self.now.st c.requires.2) _ c.close.ensures
 
 pub defs-loop-p-init : goal.defs-loop-p-init
 defs-loop-p-init t c = (record { rows = refl; out = refl }, scoping-start _ _ _ _ _ _ _ c.requires)
@@ -485,56 +488,56 @@ fold-put_filter_error-requires t c =
 pub fold-bare-requires : goal.fold-bare-requires
 fold-bare-requires t c =
     let y = c.requires.0 in
-    asks_b.bare-ask _ _ _ _ _ _ _ _ y c.requires.2 c.insert_error.ensures.1
+    asks_b.bare-ask _ _ _ _ _ _ _ _ y (due-placed c.args.o c.args.self.now.st c.requires.2) c.insert_error.ensures.1
 
 pub fold-returns-then-f-lt2-clause-is : goal.fold-returns-then-f-lt2-clause-is
 fold-returns-then-f-lt2-clause-is t c =
     let y = c.requires.0 in
-    asks_b.fold-lost _ _ _ _ _ _ _ _ _ _ _ _ _ _ _ _ _ _ c.requires.3 y c.requires.1 c.fold_of-f.ensures c.if-f-lt2.true refl refl refl c.insert_error.ensures.0 c.insert_error.ensures.1 c.put_filter_error.ensures c.bare.ensures
+    asks_b.fold-lost _ _ _ _ _ _ _ _ _ _ _ _ _ _ _ _ _ _ c.requires.3 y c.requires.1 c.fold_of-f.ensures c.if-f-lt2.true refl refl refl c.insert_error.ensures.0 c.insert_error.ensures.1 c.put_filter_error.ensures (bare-of c.args.o _ _ _ _ c.args.self.now.st _ _ _ _ c.requires.2 (ready-low _ _ _ _ _ _ c.requires.0) (omega (arith, y.offs, asks.error-state c.args.self.now.st _ _ c.insert_error.ensures.1)) c.bare.ensures)
 
 pub fold-reserve-requires : goal.fold-reserve-requires
 fold-reserve-requires t c =
     let y = c.requires.0 in
-    asks_b.reserve-room _ _ _ _ _ _ _ _ y c.requires.2 (omega (arith, c.fold_of-f.ensures.room, y.within, y.small))
+    asks_b.reserve-room _ _ _ _ _ _ _ _ y (due-placed c.args.o c.args.self.now.st c.requires.2) (omega (arith, c.fold_of-f.ensures.room, y.within, y.small))
 
 pub fold-iterm-requires : goal.fold-iterm-requires
 fold-iterm-requires t c =
     let y = c.requires.0 in
     let h = whole.fold-places _ _ _ c.requires.3 c.requires.1 c.fold_of-f.ensures c.if-f-lt2.false in
-    (omega (arith, c.decreases, h.at, h.pat, h.init, h.update, h.last, h.fits), whole.fold-source _ _ _ c.requires.3 c.requires.1 c.fold_of-f.ensures c.if-f-lt2.false _ _ _ _ _ y c.reserve.ensures)
+    (omega (arith, c.decreases, h.at, h.pat, h.init, h.update, h.last, h.fits), whole.fold-source _ _ _ c.requires.3 c.requires.1 c.fold_of-f.ensures c.if-f-lt2.false _ _ _ _ _ y (reserve-of c.args.o _ c.args.self.now.st _ (ready-low _ _ _ _ _ _ c.requires.0) c.reserve.ensures))
 
 pub fold-pattern-i-requires : goal.fold-pattern-i-requires
 fold-pattern-i-requires t c =
     let y = c.requires.0 in
     let h = whole.fold-places _ _ _ c.requires.3 c.requires.1 c.fold_of-f.ensures c.if-f-lt2.false in
-    let r = whole.fold-pattern _ _ _ c.requires.3 c.requires.1 c.fold_of-f.ensures c.if-f-lt2.false _ _ _ _ _ y c.reserve.ensures _ _ _ _ _ c.iterm.ensures.is in
+    let r = whole.fold-pattern _ _ _ c.requires.3 c.requires.1 c.fold_of-f.ensures c.if-f-lt2.false _ _ _ _ _ y (reserve-of c.args.o _ c.args.self.now.st _ (ready-low _ _ _ _ _ _ c.requires.0) c.reserve.ensures) _ _ _ _ _ c.iterm.ensures.is in
     (omega (arith, c.decreases, h.at, h.pat, h.init, h.update, h.last, h.fits), (r.0, r.1, r.2, omega arith))
 
 pub fold-iterm-requires-2 : goal.fold-iterm-requires-2
 fold-iterm-requires-2 t c =
     let y = c.requires.0 in
     let h = whole.fold-places _ _ _ c.requires.3 c.requires.1 c.fold_of-f.ensures c.if-f-lt2.false in
-    (omega (arith, c.decreases, h.at, h.pat, h.init, h.update, h.last, h.fits), whole.fold-init _ _ _ c.requires.3 c.requires.1 c.fold_of-f.ensures c.if-f-lt2.false _ _ _ _ _ y c.reserve.ensures _ _ _ _ _ c.iterm.ensures.is _ _ _ _ c.pattern-i.ensures.is)
+    (omega (arith, c.decreases, h.at, h.pat, h.init, h.update, h.last, h.fits), whole.fold-init _ _ _ c.requires.3 c.requires.1 c.fold_of-f.ensures c.if-f-lt2.false _ _ _ _ _ y (reserve-of c.args.o _ c.args.self.now.st _ (ready-low _ _ _ _ _ _ c.requires.0) c.reserve.ensures) _ _ _ _ _ c.iterm.ensures.is _ _ _ _ c.pattern-i.ensures.is)
 
 pub fold-update-u-requires : goal.fold-update-u-requires
 fold-update-u-requires t c =
     let y = c.requires.0 in
-    (omega (arith, c.decreases), whole.fold-update _ _ _ c.requires.3 c.requires.1 c.fold_of-f.ensures c.if-f-lt2.false _ _ _ _ _ y c.reserve.ensures _ _ _ _ _ c.iterm.ensures.is _ _ _ _ c.pattern-i.ensures.is _ _ _ _ c.iterm-2.ensures.is)
+    (omega (arith, c.decreases), whole.fold-update _ _ _ c.requires.3 c.requires.1 c.fold_of-f.ensures c.if-f-lt2.false _ _ _ _ _ y (reserve-of c.args.o _ c.args.self.now.st _ (ready-low _ _ _ _ _ _ c.requires.0) c.reserve.ensures) _ _ _ _ _ c.iterm.ensures.is _ _ _ _ c.pattern-i.ensures.is _ _ _ _ c.iterm-2.ensures.is)
 
 pub fold-place-requires : goal.fold-place-requires
 fold-place-requires t c =
     let y = c.requires.0 in
-    asks_b.fold-place _ _ _ c.requires.3 c.requires.1 c.fold_of-f.ensures c.if-f-lt2.false _ _ _ _ _ y c.reserve.ensures _ _ _ _ _ c.iterm.ensures.is _ _ _ _ c.pattern-i.ensures.is _ _ _ _ c.iterm-2.ensures.is _ _ _ _ _ c.update-u.ensures.is c.requires.2
+    asks_b.fold-place _ _ _ c.requires.3 c.requires.1 c.fold_of-f.ensures c.if-f-lt2.false _ _ _ _ _ y (reserve-of c.args.o _ c.args.self.now.st _ (ready-low _ _ _ _ _ _ c.requires.0) c.reserve.ensures) _ _ _ _ _ c.iterm.ensures.is _ _ _ _ c.pattern-i.ensures.is _ _ _ _ c.iterm-2.ensures.is _ _ _ _ _ c.update-u.ensures.is (due-placed c.args.o c.args.self.now.st c.requires.2)
 
 pub fold-put_fold-requires : goal.fold-put_fold-requires
 fold-put_fold-requires t c =
     let y = c.requires.0 in
-    (whole.fold-put _ _ _ c.requires.3 c.requires.1 c.fold_of-f.ensures c.if-f-lt2.false _ _ _ _ _ y c.reserve.ensures _ _ _ _ _ c.iterm.ensures.is _ _ _ _ c.pattern-i.ensures.is _ _ _ _ c.iterm-2.ensures.is _ _ _ _ _ _ _ _ _ c.update-u.ensures.is refl refl refl c.requires.2 c.place.ensures.0).0
+    (whole.fold-put _ _ _ c.requires.3 c.requires.1 c.fold_of-f.ensures c.if-f-lt2.false _ _ _ _ _ y (reserve-of c.args.o _ c.args.self.now.st _ (ready-low _ _ _ _ _ _ c.requires.0) c.reserve.ensures) _ _ _ _ _ c.iterm.ensures.is _ _ _ _ c.pattern-i.ensures.is _ _ _ _ c.iterm-2.ensures.is _ _ _ _ _ _ _ _ _ c.update-u.ensures.is refl refl refl (due-placed c.args.o c.args.self.now.st c.requires.2) (place-spot c.args.o _ _ c.args.self.now.st c.requires.2 (ready-low _ _ _ _ _ _ c.requires.0) c.place.ensures.0)).0
 
 pub fold-returns-clause-is : goal.fold-returns-clause-is
 fold-returns-clause-is t c =
     let y = c.requires.0 in
-    whole.fold-did _ _ _ c.requires.3 c.requires.1 c.fold_of-f.ensures c.if-f-lt2.false _ _ _ _ _ y c.reserve.ensures _ _ _ _ _ c.iterm.ensures.is _ _ _ _ c.pattern-i.ensures.is _ _ _ _ c.iterm-2.ensures.is _ _ _ _ _ _ _ _ _ c.update-u.ensures.is refl refl refl _ _ c.place.ensures.0 c.place.ensures.1 c.put_fold.ensures
+    whole.fold-did _ _ _ c.requires.3 c.requires.1 c.fold_of-f.ensures c.if-f-lt2.false _ _ _ _ _ y (reserve-of c.args.o _ c.args.self.now.st _ (ready-low _ _ _ _ _ _ c.requires.0) c.reserve.ensures) _ _ _ _ _ c.iterm.ensures.is _ _ _ _ c.pattern-i.ensures.is _ _ _ _ c.iterm-2.ensures.is _ _ _ _ _ _ _ _ _ c.update-u.ensures.is refl refl refl _ _ (place-spot c.args.o _ _ c.args.self.now.st c.requires.2 (ready-low _ _ _ _ _ _ c.requires.0) c.place.ensures.0) (place-next c.args.o _ c.args.self.now.st _ _ c.requires.2 (ready-low _ _ _ _ _ _ c.requires.0) c.place.ensures.1) c.put_fold.ensures
 
 pub ite-end_of-z-requires : goal.ite-end_of-z-requires
 ite-end_of-z-requires t c =
@@ -550,7 +553,7 @@ ite-reserve-requires t c =
     let g = c.requires.1 in
     let e = c.requires.3 in
     let f = asks.stands-fits _ _ g in
-    asks.reserve-fits _ _ _ _ _ _ _ _ y c.requires.2 (omega arith)
+    asks.reserve-fits _ _ _ _ _ _ _ _ y (due-placed c.args.o c.args.self.now.st c.requires.2) (omega arith)
 
 pub ite-pairs-a-requires : goal.ite-pairs-a-requires
 ite-pairs-a-requires t c =
@@ -558,7 +561,7 @@ ite-pairs-a-requires t c =
     let g = c.requires.1 in
     let e = c.requires.3 in
     let f = asks.stands-fits _ _ g in
-    let w = conditional.ite-ready _ _ _ _ _ _ _ e y g c.reserve.ensures in
+    let w = conditional.ite-ready _ _ _ _ _ _ _ e y g (reserve-of c.args.o _ c.args.self.now.st _ (ready-low _ _ _ _ _ _ c.requires.0) c.reserve.ensures) in
     (omega (arith, c.decreases, f), asks.ite-at _ _ _ _ _ c.end_of-z.ensures w)
 
 pub ite-other-t-requires : goal.ite-other-t-requires
@@ -567,7 +570,7 @@ ite-other-t-requires t c =
     let g = c.requires.1 in
     let e = c.requires.3 in
     let f = asks.stands-fits _ _ g in
-    let w = asks.ite-at _ _ _ _ _ c.end_of-z.ensures (conditional.ite-ready _ _ _ _ _ _ _ e y g c.reserve.ensures) in
+    let w = asks.ite-at _ _ _ _ _ c.end_of-z.ensures (conditional.ite-ready _ _ _ _ _ _ _ e y g (reserve-of c.args.o _ c.args.self.now.st _ (ready-low _ _ _ _ _ _ c.requires.0) c.reserve.ensures)) in
     let v = conditional.ite-other _ _ _ _ _ _ _ _ _ _ _ _ w.0 w.1 c.pairs-a.ensures.is in
     (omega (arith, c.decreases, f, c.pairs-a.ensures.is.rows, v.2), (v.0, v.1))
 
@@ -577,7 +580,7 @@ ite-elses-n-requires t c =
     let g = c.requires.1 in
     let e = c.requires.3 in
     let f = asks.stands-fits _ _ g in
-    let w = asks.ite-at _ _ _ _ _ c.end_of-z.ensures (conditional.ite-ready _ _ _ _ _ _ _ e y g c.reserve.ensures) in
+    let w = asks.ite-at _ _ _ _ _ c.end_of-z.ensures (conditional.ite-ready _ _ _ _ _ _ _ e y g (reserve-of c.args.o _ c.args.self.now.st _ (ready-low _ _ _ _ _ _ c.requires.0) c.reserve.ensures)) in
     let v = conditional.ite-other _ _ _ _ _ _ _ _ _ _ _ _ w.0 w.1 c.pairs-a.ensures.is in
     asks.elses-ask _ _ _ _ _ _ _ c.pairs-a.result _ _ _ _ v.0 v.2 c.other-t.ensures.is
 
@@ -587,7 +590,7 @@ ite-place-requires t c =
     let g = c.requires.1 in
     let e = c.requires.3 in
     let f = asks.stands-fits _ _ g in
-    let w = asks.ite-at _ _ _ _ _ c.end_of-z.ensures (conditional.ite-ready _ _ _ _ _ _ _ e y g c.reserve.ensures) in
+    let w = asks.ite-at _ _ _ _ _ c.end_of-z.ensures (conditional.ite-ready _ _ _ _ _ _ _ e y g (reserve-of c.args.o _ c.args.self.now.st _ (ready-low _ _ _ _ _ _ c.requires.0) c.reserve.ensures)) in
     let v = conditional.ite-other _ _ _ _ _ _ _ _ _ _ _ _ w.0 w.1 c.pairs-a.ensures.is in
     (asks.ite-place _ _ _ _ _ _ _ c.pairs-a.result _ _ _ _ _ _ _ v.0 v.2 c.other-t.ensures.is c.elses-n.ensures).0
 
@@ -597,9 +600,9 @@ ite-put_pair-requires t c =
     let g = c.requires.1 in
     let e = c.requires.3 in
     let f = asks.stands-fits _ _ g in
-    let w = asks.ite-at _ _ _ _ _ c.end_of-z.ensures (conditional.ite-ready _ _ _ _ _ _ _ e y g c.reserve.ensures) in
+    let w = asks.ite-at _ _ _ _ _ c.end_of-z.ensures (conditional.ite-ready _ _ _ _ _ _ _ e y g (reserve-of c.args.o _ c.args.self.now.st _ (ready-low _ _ _ _ _ _ c.requires.0) c.reserve.ensures)) in
     let v = conditional.ite-other _ _ _ _ _ _ _ _ _ _ _ _ w.0 w.1 c.pairs-a.ensures.is in
-    asks.ite-own _ _ _ _ _ _ _ _ _ _ c.pairs-a.result _ _ _ _ _ _ _ _ _ _ y c.requires.2 v.0 v.2 c.other-t.ensures.is c.elses-n.ensures c.place.ensures.0 (asks.some_pair _ _ _ _ _ _ _ _ _ _ _ e g (asks.paired_at _ _ _ _ _ _ _ _ _ _ _ _ c.end_of-z.ensures c.pairs-a.ensures.is))
+    asks.ite-own _ _ _ _ _ _ _ _ _ _ c.pairs-a.result _ _ _ _ _ _ _ _ _ _ y (due-placed c.args.o c.args.self.now.st c.requires.2) v.0 v.2 c.other-t.ensures.is c.elses-n.ensures (place-spot c.args.o _ _ c.args.self.now.st c.requires.2 (ready-low _ _ _ _ _ _ c.requires.0) c.place.ensures.0) (asks.some_pair _ _ _ _ _ _ _ _ _ _ _ e g (asks.paired_at _ _ _ _ _ _ _ _ _ _ _ _ c.end_of-z.ensures c.pairs-a.ensures.is))
 
 pub ite-returns-clause-is : goal.ite-returns-clause-is
 ite-returns-clause-is t c =
@@ -607,7 +610,7 @@ ite-returns-clause-is t c =
     let g = c.requires.1 in
     let e = c.requires.3 in
     let f = asks.stands-fits _ _ g in
-    conditional.ite-did _ _ _ _ _ _ _ _ _ _ _ _ _ _ _ _ _ _ _ _ _ _ _ _ e y g c.reserve.ensures (asks.paired_at _ _ _ _ _ _ _ _ _ _ _ _ c.end_of-z.ensures c.pairs-a.ensures.is) (asks.else-at _ _ _ _ _ _ _ _ _ _ _ _ _ c.end_of-z.ensures c.other-t.ensures.is) c.elses-n.ensures c.place.ensures.0 c.place.ensures.1 c.put_pair.ensures refl
+    conditional.ite-did _ _ _ _ _ _ _ _ _ _ _ _ _ _ _ _ _ _ _ _ _ _ _ _ e y g (reserve-of c.args.o _ c.args.self.now.st _ (ready-low _ _ _ _ _ _ c.requires.0) c.reserve.ensures) (asks.paired_at _ _ _ _ _ _ _ _ _ _ _ _ c.end_of-z.ensures c.pairs-a.ensures.is) (asks.else-at _ _ _ _ _ _ _ _ _ _ _ _ _ c.end_of-z.ensures c.other-t.ensures.is) c.elses-n.ensures (place-spot c.args.o _ _ c.args.self.now.st c.requires.2 (ready-low _ _ _ _ _ _ c.requires.0) c.place.ensures.0) (place-next c.args.o _ c.args.self.now.st _ _ c.requires.2 (ready-low _ _ _ _ _ _ c.requires.0) c.place.ensures.1) c.put_pair.ensures refl
 
 pub items-end_of-z-requires : goal.items-end_of-z-requires
 items-end_of-z-requires t c =
@@ -693,7 +696,7 @@ iterm-named-requires t c =
     let g = c.requires.1 in
     let f = asks.stands-fits _ _ g in
     let w = terms.number-ready _ _ _ _ _ _ _ y refl refl in
-    ((c.args.k, w.0), g, w.1, inl (refl, refl, c.in-167.is))
+    ((c.args.k, w.0), g, (omega arith), inl (refl, refl, c.in-167.is))
 
 pub iterm-num-requires : goal.iterm-num-requires
 iterm-num-requires t c =
@@ -701,7 +704,7 @@ iterm-num-requires t c =
     let g = c.requires.1 in
     let f = asks.stands-fits _ _ g in
     let w = terms.number-ready _ _ _ _ _ _ _ y refl refl in
-    (g, w.1, c.in-170.is, y.small, omega (arith, w.0.offs))
+    (g, (omega arith), c.in-170.is, y.small, omega (arith, w.0.offs))
 
 pub iterm-term-requires : goal.iterm-term-requires
 iterm-term-requires t c =
@@ -709,7 +712,7 @@ iterm-term-requires t c =
     let g = c.requires.1 in
     let f = asks.stands-fits _ _ g in
     let w = terms.number-ready _ _ _ _ _ _ _ y refl refl in
-    (omega (arith, c.decreases), (w.0, g, w.1))
+    (omega (arith, c.decreases), (w.0, g, (omega arith)))
 
 pub iterm-returns-in-160-clause-is : goal.iterm-returns-in-160-clause-is
 iterm-returns-in-160-clause-is t c =
@@ -717,7 +720,7 @@ iterm-returns-in-160-clause-is t c =
     let g = c.requires.1 in
     let f = asks.stands-fits _ _ g in
     let w = terms.number-ready _ _ _ _ _ _ _ y refl refl in
-    terms.laid_of _ _ _ _ _ _ _ _ _ _ _ _ _ y g refl refl (leaves.id-bare _ _ _ _ _ _ _ _ _ _ _ c.in-160.is (omega (arith, w.0.offs)) c.bare.ensures)
+    terms.laid_of _ _ _ _ _ _ _ _ _ _ _ _ _ y g refl refl (leaves.id-bare _ _ _ _ _ _ _ _ _ _ _ c.in-160.is (omega (arith, w.0.offs)) (bare-of (Some c.args.self.now.st.end) _ _ _ _ c.args.self.now.st _ _ _ _ (omega arith) (ready-low _ _ _ _ _ _ c.requires.0) (omega (arith, y.offs)) c.bare.ensures))
 
 pub iterm-returns-in-167-clause-is : goal.iterm-returns-in-167-clause-is
 iterm-returns-in-167-clause-is t c =
@@ -820,7 +823,7 @@ label-reserve-requires t c =
     let g = c.requires.1 in
     let e = c.requires.3 in
     let f = asks.stands-fits _ _ g in
-    asks.reserve-fits _ _ _ _ _ _ _ _ y c.requires.2 (omega arith)
+    asks.reserve-fits _ _ _ _ _ _ _ _ y (due-placed c.args.o c.args.self.now.st c.requires.2) (omega arith)
 
 pub label-bounds-self-1 : goal.label-bounds-self-1
 label-bounds-self-1 t c =
@@ -853,7 +856,7 @@ label-iterm-requires t c =
     let e = c.requires.3 in
     let f = asks.stands-fits _ _ g in
     let r = asks.label-rows _ _ _ _ _ _ e y g c.bind.ensures in
-    let w = simple.label-ready _ _ _ _ _ _ _ _ e y g c.reserve.ensures r.1.same r.0 in
+    let w = simple.label-ready _ _ _ _ _ _ _ _ e y g (reserve-of c.args.o _ c.args.self.now.st _ (ready-low _ _ _ _ _ _ c.requires.0) c.reserve.ensures) r.1.same r.0 in
     (omega (arith, c.decreases, f, c.end_of.ensures, (asks.label-asks _ _ _ _ _ e y g).1), simple.at_place _ _ _ _ _ c.end_of.ensures w)
 
 pub label-close-requires : goal.label-close-requires
@@ -872,8 +875,8 @@ label-place-requires t c =
     let e = c.requires.3 in
     let f = asks.stands-fits _ _ g in
     let r = asks.label-rows _ _ _ _ _ _ e y g c.bind.ensures in
-    let w = simple.label-ready _ _ _ _ _ _ _ _ e y g c.reserve.ensures r.1.same r.0 in
-    asks.place-laid _ _ _ _ _ _ _ _ _ _ _ _ _ _ _ _ _ _ y c.reserve.ensures (omega arith) (simple.laid-at _ _ _ _ _ _ _ _ _ _ _ _ c.end_of.ensures c.iterm.ensures.is) (asks.stands-fits _ _ w.1)
+    let w = simple.label-ready _ _ _ _ _ _ _ _ e y g (reserve-of c.args.o _ c.args.self.now.st _ (ready-low _ _ _ _ _ _ c.requires.0) c.reserve.ensures) r.1.same r.0 in
+    asks.place-laid _ _ _ _ _ _ _ _ _ _ _ _ _ _ _ _ _ _ y (reserve-of c.args.o _ c.args.self.now.st _ (ready-low _ _ _ _ _ _ c.requires.0) c.reserve.ensures) (omega arith) (simple.laid-at _ _ _ _ _ _ _ _ _ _ _ _ c.end_of.ensures c.iterm.ensures.is) (asks.stands-fits _ _ w.1)
 
 pub label-put_one-requires : goal.label-put_one-requires
 label-put_one-requires t c =
@@ -882,8 +885,8 @@ label-put_one-requires t c =
     let e = c.requires.3 in
     let f = asks.stands-fits _ _ g in
     let r = asks.label-rows _ _ _ _ _ _ e y g c.bind.ensures in
-    let w = simple.label-ready _ _ _ _ _ _ _ _ e y g c.reserve.ensures r.1.same r.0 in
-    asks.own-laid _ _ _ _ _ _ _ _ _ _ _ _ _ _ _ _ _ _ _ y c.requires.2 c.reserve.ensures (omega arith) (simple.laid-at _ _ _ _ _ _ _ _ _ _ _ _ c.end_of.ensures c.iterm.ensures.is) (asks.stands-fits _ _ w.1) c.place.ensures.0
+    let w = simple.label-ready _ _ _ _ _ _ _ _ e y g (reserve-of c.args.o _ c.args.self.now.st _ (ready-low _ _ _ _ _ _ c.requires.0) c.reserve.ensures) r.1.same r.0 in
+    asks.own-laid _ _ _ _ _ _ _ _ _ _ _ _ _ _ _ _ _ _ _ y (due-placed c.args.o c.args.self.now.st c.requires.2) (reserve-of c.args.o _ c.args.self.now.st _ (ready-low _ _ _ _ _ _ c.requires.0) c.reserve.ensures) (omega arith) (simple.laid-at _ _ _ _ _ _ _ _ _ _ _ _ c.end_of.ensures c.iterm.ensures.is) (asks.stands-fits _ _ w.1) (place-spot c.args.o _ _ c.args.self.now.st c.requires.2 (ready-low _ _ _ _ _ _ c.requires.0) c.place.ensures.0)
 
 pub label-returns-clause-is : goal.label-returns-clause-is
 label-returns-clause-is t c =
@@ -892,8 +895,8 @@ label-returns-clause-is t c =
     let e = c.requires.3 in
     let f = asks.stands-fits _ _ g in
     let r = asks.label-rows _ _ _ _ _ _ e y g c.bind.ensures in
-    let w = simple.label-ready _ _ _ _ _ _ _ _ e y g c.reserve.ensures r.1.same r.0 in
-    simple.label-did _ _ _ _ _ _ _ _ _ _ _ _ _ _ _ _ _ _ e y g c.reserve.ensures refl r.0 r.1 (simple.laid-at _ _ _ _ _ _ _ _ _ _ _ _ c.end_of.ensures c.iterm.ensures.is) c.close.ensures (asks.closed-length _ _ _ _ _ c.close.ensures) c.place.ensures.0 c.place.ensures.1 c.put_one.ensures
+    let w = simple.label-ready _ _ _ _ _ _ _ _ e y g (reserve-of c.args.o _ c.args.self.now.st _ (ready-low _ _ _ _ _ _ c.requires.0) c.reserve.ensures) r.1.same r.0 in
+    simple.label-did _ _ _ _ _ _ _ _ _ _ _ _ _ _ _ _ _ _ e y g (reserve-of c.args.o _ c.args.self.now.st _ (ready-low _ _ _ _ _ _ c.requires.0) c.reserve.ensures) refl r.0 r.1 (simple.laid-at _ _ _ _ _ _ _ _ _ _ _ _ c.end_of.ensures c.iterm.ensures.is) c.close.ensures (asks.closed-length _ _ _ _ _ c.close.ensures) (place-spot c.args.o _ _ c.args.self.now.st c.requires.2 (ready-low _ _ _ _ _ _ c.requires.0) c.place.ensures.0) (place-next c.args.o _ c.args.self.now.st _ _ c.requires.2 (ready-low _ _ _ _ _ _ c.requires.0) c.place.ensures.1) c.put_one.ensures
 
 pub neg-reserve-requires : goal.neg-reserve-requires
 neg-reserve-requires t c =
@@ -901,7 +904,7 @@ neg-reserve-requires t c =
     let g = c.requires.1 in
     let e = c.requires.3 in
     let f = asks.stands-fits _ _ g in
-    asks.reserve-fits _ _ _ _ _ _ _ _ y c.requires.2 (omega arith)
+    asks.reserve-fits _ _ _ _ _ _ _ _ y (due-placed c.args.o c.args.self.now.st c.requires.2) (omega arith)
 
 pub neg-iterm-requires : goal.neg-iterm-requires
 neg-iterm-requires t c =
@@ -909,7 +912,7 @@ neg-iterm-requires t c =
     let g = c.requires.1 in
     let e = c.requires.3 in
     let f = asks.stands-fits _ _ g in
-    let w = simple.neg-ready _ _ _ _ _ _ _ e y g c.reserve.ensures in
+    let w = simple.neg-ready _ _ _ _ _ _ _ e y g (reserve-of c.args.o _ c.args.self.now.st _ (ready-low _ _ _ _ _ _ c.requires.0) c.reserve.ensures) in
     (omega (arith, c.decreases, f), w)
 
 pub neg-place-requires : goal.neg-place-requires
@@ -918,8 +921,8 @@ neg-place-requires t c =
     let g = c.requires.1 in
     let e = c.requires.3 in
     let f = asks.stands-fits _ _ g in
-    let w = simple.neg-ready _ _ _ _ _ _ _ e y g c.reserve.ensures in
-    asks.place-laid _ _ _ _ _ _ _ _ _ _ _ _ _ _ _ _ _ _ y c.reserve.ensures (omega arith) c.iterm.ensures.is (asks.stands-fits _ _ w.1)
+    let w = simple.neg-ready _ _ _ _ _ _ _ e y g (reserve-of c.args.o _ c.args.self.now.st _ (ready-low _ _ _ _ _ _ c.requires.0) c.reserve.ensures) in
+    asks.place-laid _ _ _ _ _ _ _ _ _ _ _ _ _ _ _ _ _ _ y (reserve-of c.args.o _ c.args.self.now.st _ (ready-low _ _ _ _ _ _ c.requires.0) c.reserve.ensures) (omega arith) c.iterm.ensures.is (asks.stands-fits _ _ w.1)
 
 pub neg-put_one-requires : goal.neg-put_one-requires
 neg-put_one-requires t c =
@@ -927,8 +930,8 @@ neg-put_one-requires t c =
     let g = c.requires.1 in
     let e = c.requires.3 in
     let f = asks.stands-fits _ _ g in
-    let w = simple.neg-ready _ _ _ _ _ _ _ e y g c.reserve.ensures in
-    asks.own-laid _ _ _ _ _ _ _ _ _ _ _ _ _ _ _ _ _ _ _ y c.requires.2 c.reserve.ensures (omega arith) c.iterm.ensures.is (asks.stands-fits _ _ w.1) c.place.ensures.0
+    let w = simple.neg-ready _ _ _ _ _ _ _ e y g (reserve-of c.args.o _ c.args.self.now.st _ (ready-low _ _ _ _ _ _ c.requires.0) c.reserve.ensures) in
+    asks.own-laid _ _ _ _ _ _ _ _ _ _ _ _ _ _ _ _ _ _ _ y (due-placed c.args.o c.args.self.now.st c.requires.2) (reserve-of c.args.o _ c.args.self.now.st _ (ready-low _ _ _ _ _ _ c.requires.0) c.reserve.ensures) (omega arith) c.iterm.ensures.is (asks.stands-fits _ _ w.1) (place-spot c.args.o _ _ c.args.self.now.st c.requires.2 (ready-low _ _ _ _ _ _ c.requires.0) c.place.ensures.0)
 
 pub neg-returns-clause-is : goal.neg-returns-clause-is
 neg-returns-clause-is t c =
@@ -936,7 +939,7 @@ neg-returns-clause-is t c =
     let g = c.requires.1 in
     let e = c.requires.3 in
     let f = asks.stands-fits _ _ g in
-    simple.neg-did _ _ _ _ _ _ _ _ _ _ _ _ _ _ _ _ e y g c.reserve.ensures refl c.iterm.ensures.is c.place.ensures.0 c.place.ensures.1 c.put_one.ensures
+    simple.neg-did _ _ _ _ _ _ _ _ _ _ _ _ _ _ _ _ e y g (reserve-of c.args.o _ c.args.self.now.st _ (ready-low _ _ _ _ _ _ c.requires.0) c.reserve.ensures) refl c.iterm.ensures.is (place-spot c.args.o _ _ c.args.self.now.st c.requires.2 (ready-low _ _ _ _ _ _ c.requires.0) c.place.ensures.0) (place-next c.args.o _ c.args.self.now.st _ _ c.requires.2 (ready-low _ _ _ _ _ _ c.requires.0) c.place.ensures.1) c.put_one.ensures
 
 pub obj-end_of-z-requires : goal.obj-end_of-z-requires
 obj-end_of-z-requires t c =
@@ -963,8 +966,8 @@ obj-entries_width-w-requires t c =
 pub obj-reserve-requires : goal.obj-reserve-requires
 obj-reserve-requires t c =
     let y = c.requires.0 in
-    let pl = c.requires.2 in
-    omega (arith, noting.placed-low c.args.o c.args.self.now.st pl (omega (arith, y.offs)), c.entries_width-w.ensures.1)
+    let pl = (due-placed c.args.o c.args.self.now.st c.requires.2) in
+    omega (arith, noting.placed-low _ c.args.self.now.st pl (omega (arith, y.offs)), c.entries_width-w.ensures.1)
 
 pub obj-overflow_add-p-2 : goal.obj-overflow_add-p-2
 obj-overflow_add-p-2 t c =
@@ -981,7 +984,7 @@ obj-entries-i-requires t c =
     let g = c.requires.1 in
     let e = c.requires.3 in
     let fits = term_fits b g.0 c.args.p g.1 in
-    let w = forms_objects.obj-ready b _ _ _ _ _ _ _ _ c.end_of-z.ensures e y g c.entries_width-w.ensures.1 c.reserve.ensures in
+    let w = forms_objects.obj-ready b _ _ _ _ _ _ _ _ c.end_of-z.ensures e y g c.entries_width-w.ensures.1 (reserve-of c.args.o _ c.args.self.now.st _ (ready-low _ _ _ _ _ _ c.requires.0) c.reserve.ensures) in
     (omega (arith, c.decreases, fits), (w.0, w.1))
 
 pub obj-sum_or-requires : goal.obj-sum_or-requires
@@ -989,9 +992,9 @@ obj-sum_or-requires t c =
     let b = c.args.tree.now in
     let y = c.requires.0 in
     let g = c.requires.1 in
-    let pl = c.requires.2 in
+    let pl = (due-placed c.args.o c.args.self.now.st c.requires.2) in
     let e = c.requires.3 in
-    forms_objects.obj-summed b _ _ _ _ _ _ _ _ _ _ _ _ _ _ c.end_of-z.ensures e y g c.entries_width-w.ensures.1 c.reserve.ensures c.entries-i.ensures.is pl
+    forms_objects.obj-summed b _ _ _ _ _ _ _ _ _ _ _ _ _ _ c.end_of-z.ensures e y g c.entries_width-w.ensures.1 (reserve-of c.args.o _ c.args.self.now.st _ (ready-low _ _ _ _ _ _ c.requires.0) c.reserve.ensures) c.entries-i.ensures.is pl
 
 pub obj-returns-clause-is : goal.obj-returns-clause-is
 obj-returns-clause-is t c =
@@ -999,7 +1002,7 @@ obj-returns-clause-is t c =
     let y = c.requires.0 in
     let g = c.requires.1 in
     let e = c.requires.3 in
-    forms_objects.obj-done b _ _ _ _ _ _ _ _ _ _ _ _ _ _ c.end_of-z.ensures e y g c.entries_width-w.ensures.1 c.reserve.ensures c.entries-i.ensures.is c.entries_width-w.ensures.0 _ _ c.sum_or.ensures
+    forms_objects.obj-done b _ _ _ _ _ _ _ _ _ _ _ _ _ _ c.end_of-z.ensures e y g c.entries_width-w.ensures.1 (reserve-of c.args.o _ c.args.self.now.st _ (ready-low _ _ _ _ _ _ c.requires.0) c.reserve.ensures) c.entries-i.ensures.is c.entries_width-w.ensures.0 _ _ (λ ts at u a l v. sum-at _ _ _ c.args.o _ c.args.self.now.st _ _ _ _ c.requires.2 (ready-low _ _ _ _ _ _ c.requires.0) (c.sum_or.ensures ts at u a l v))
 
 pub obj_entry-overflow_add-q : goal.obj_entry-overflow_add-q
 obj_entry-overflow_add-q t c =
@@ -1210,7 +1213,7 @@ other-term-requires t c =
     let y = c.requires.0 in
     let g = c.requires.1 in
     let w = conditional.else-ready _ _ _ _ _ _ y c.if-q-z.true g in
-    (omega (arith, c.decreases), (w.0, w.1, inr refl))
+    (omega (arith, c.decreases), (w.0, w.1, tt))
 
 pub other-returns-then-q-z-clause-is : goal.other-returns-then-q-z-clause-is
 other-returns-then-q-z-clause-is t c =
@@ -1228,7 +1231,7 @@ pub other-returns-clause-is : goal.other-returns-clause-is
 other-returns-clause-is t c =
     let y = c.requires.0 in
     let g = c.requires.1 in
-    asks.else-bare _ _ _ _ _ _ _ _ _ _ _ c.if-q-z.false (omega (arith, y.offs)) g c.bare.ensures
+    asks.else-bare _ _ _ _ _ _ _ _ _ _ _ c.if-q-z.false (omega (arith, y.offs)) g (bare-of None _ _ _ _ c.args.self.now.st _ _ _ _ tt (ready-low _ _ _ _ _ _ c.requires.0) (ready-low _ _ _ _ _ _ c.requires.0) c.bare.ensures)
 
 pub own_key-iterm-requires : goal.own_key-iterm-requires
 own_key-iterm-requires t c =
@@ -1693,10 +1696,10 @@ path-reserve-requires t c =
     let b = c.args.tree.now in
     let y = c.requires.0 in
     let g = c.requires.1 in
-    let pl = c.requires.2 in
+    let pl = (due-placed c.args.o c.args.self.now.st c.requires.2) in
     let e = c.requires.3 in
     let h = forms_paths.path-ends b c.args.p _ _ c.end_of-q.ensures c.end_of-z.ensures e g in
-    omega (arith, noting.placed-low c.args.o c.args.self.now.st pl (omega (arith, y.offs)), c.parts_width-w.ensures.1, h.3, y.small)
+    omega (arith, noting.placed-low _ c.args.self.now.st pl (omega (arith, y.offs)), c.parts_width-w.ensures.1, h.3, y.small)
 
 pub path-overflow_add-p-2 : goal.path-overflow_add-p-2
 path-overflow_add-p-2 t c =
@@ -1715,7 +1718,7 @@ path-iterm-requires t c =
     let fits = term_fits b g.0 c.args.p g.1 in
     let h = forms_paths.path-ends b c.args.p _ _ c.end_of-q.ensures c.end_of-z.ensures e g in
     let few : 7 + c.parts_width-w.result ≤ 2097152 = omega (arith, c.parts_width-w.ensures.1, h.3, y.small) in
-    let w = forms_paths.path-ready b _ _ _ _ _ _ _ e y g few c.reserve.ensures in
+    let w = forms_paths.path-ready b _ _ _ _ _ _ _ e y g few (reserve-of c.args.o _ c.args.self.now.st _ (ready-low _ _ _ _ _ _ c.requires.0) c.reserve.ensures) in
     (omega (arith, c.decreases, fits), (w.0, w.1))
 
 pub path-parts-i-requires : goal.path-parts-i-requires
@@ -1726,7 +1729,7 @@ path-parts-i-requires t c =
     let e = c.requires.3 in
     let h = forms_paths.path-ends b c.args.p _ _ c.end_of-q.ensures c.end_of-z.ensures e g in
     let few : 7 + c.parts_width-w.result ≤ 2097152 = omega (arith, c.parts_width-w.ensures.1, h.3, y.small) in
-    let w = forms_paths.path-rest-at b _ _ _ _ _ _ _ _ _ _ _ _ _ _ c.end_of-q.ensures c.end_of-z.ensures e y g few c.reserve.ensures c.iterm.ensures.is in
+    let w = forms_paths.path-rest-at b _ _ _ _ _ _ _ _ _ _ _ _ _ _ c.end_of-q.ensures c.end_of-z.ensures e y g few (reserve-of c.args.o _ c.args.self.now.st _ (ready-low _ _ _ _ _ _ c.requires.0) c.reserve.ensures) c.iterm.ensures.is in
     (omega (arith, c.decreases, h.1, h.2, h.3), (w.0, w.1))
 
 pub path-place-requires : goal.path-place-requires
@@ -1735,18 +1738,18 @@ path-place-requires t c =
     let y = c.requires.0 in
     let g = c.requires.1 in
     let e = c.requires.3 in
-    forms_paths.path-rooms b _ _ _ _ _ _ _ _ _ _ _ _ _ _ _ _ _ _ c.end_of-q.ensures c.end_of-z.ensures e y g c.parts_width-w.ensures.1 c.reserve.ensures c.iterm.ensures.is c.parts-i.ensures.is
+    forms_paths.path-rooms b _ _ _ _ _ _ _ _ _ _ _ _ _ _ _ _ _ _ c.end_of-q.ensures c.end_of-z.ensures e y g c.parts_width-w.ensures.1 (reserve-of c.args.o _ c.args.self.now.st _ (ready-low _ _ _ _ _ _ c.requires.0) c.reserve.ensures) c.iterm.ensures.is c.parts-i.ensures.is
 
 pub path-put_path-requires : goal.path-put_path-requires
 path-put_path-requires t c =
     let b = c.args.tree.now in
     let y = c.requires.0 in
     let g = c.requires.1 in
-    let pl = c.requires.2 in
+    let pl = (due-placed c.args.o c.args.self.now.st c.requires.2) in
     let e = c.requires.3 in
     let h = forms_paths.path-ends b c.args.p _ _ c.end_of-q.ensures c.end_of-z.ensures e g in
     let few : 7 + c.parts_width-w.result ≤ 2097152 = omega (arith, c.parts_width-w.ensures.1, h.3, y.small) in
-    forms_paths.path-put-at b _ _ _ _ _ _ _ _ _ _ _ _ _ _ _ _ _ _ _ c.end_of-q.ensures c.end_of-z.ensures e y g pl c.parts_width-w.ensures.0 few c.reserve.ensures c.iterm.ensures.is c.parts-i.ensures.is c.place.ensures.0
+    forms_paths.path-put-at b _ _ _ _ _ _ _ _ _ _ _ _ _ _ _ _ _ _ _ c.end_of-q.ensures c.end_of-z.ensures e y g pl c.parts_width-w.ensures.0 few (reserve-of c.args.o _ c.args.self.now.st _ (ready-low _ _ _ _ _ _ c.requires.0) c.reserve.ensures) c.iterm.ensures.is c.parts-i.ensures.is (place-spot c.args.o _ _ c.args.self.now.st c.requires.2 (ready-low _ _ _ _ _ _ c.requires.0) c.place.ensures.0)
 
 pub path-returns-clause-is : goal.path-returns-clause-is
 path-returns-clause-is t c =
@@ -1754,7 +1757,7 @@ path-returns-clause-is t c =
     let y = c.requires.0 in
     let g = c.requires.1 in
     let e = c.requires.3 in
-    forms_paths.path-done b _ _ _ _ _ _ _ _ _ _ _ _ _ _ _ _ _ _ _ _ _ _ c.end_of-q.ensures c.end_of-z.ensures e y g c.parts_width-w.ensures.0 c.reserve.ensures refl c.iterm.ensures.is c.parts-i.ensures.is c.place.ensures.0 c.place.ensures.1 c.put_path.ensures
+    forms_paths.path-done b _ _ _ _ _ _ _ _ _ _ _ _ _ _ _ _ _ _ _ _ _ _ c.end_of-q.ensures c.end_of-z.ensures e y g c.parts_width-w.ensures.0 (reserve-of c.args.o _ c.args.self.now.st _ (ready-low _ _ _ _ _ _ c.requires.0) c.reserve.ensures) refl c.iterm.ensures.is c.parts-i.ensures.is (place-spot c.args.o _ _ c.args.self.now.st c.requires.2 (ready-low _ _ _ _ _ _ c.requires.0) c.place.ensures.0) (place-next c.args.o _ c.args.self.now.st _ _ c.requires.2 (ready-low _ _ _ _ _ _ c.requires.0) c.place.ensures.1) c.put_path.ensures
 
 pub pattern-bounds-tree-q : goal.pattern-bounds-tree-q
 pattern-bounds-tree-q t c =
@@ -1816,7 +1819,7 @@ pattern-returns-clause-is t c =
 pub pipe-reserve-requires : goal.pipe-reserve-requires
 pipe-reserve-requires t c =
     let y = c.requires.0 in
-    asks_b.reserve-room _ _ _ _ _ _ _ _ y c.requires.2 (omega arith)
+    asks_b.reserve-room _ _ _ _ _ _ _ _ y (due-placed c.args.o c.args.self.now.st c.requires.2) (omega arith)
 
 pub pipe-overflow_add-p : goal.pipe-overflow_add-p
 pipe-overflow_add-p t c =
@@ -1826,7 +1829,7 @@ pipe-overflow_add-p t c =
 pub pipe-iterm-requires : goal.pipe-iterm-requires
 pipe-iterm-requires t c =
     let y = c.requires.0 in
-    (omega (arith, c.decreases, y.within), ops.pipe-left _ _ _ _ _ _ _ _ c.requires.3 c.requires.4 c.requires.5 c.requires.6 y c.requires.1 c.reserve.ensures)
+    (omega (arith, c.decreases, y.within), ops.pipe-left _ _ _ _ _ _ _ _ c.requires.3 c.requires.4 c.requires.5 c.requires.6 y c.requires.1 (reserve-of c.args.o _ c.args.self.now.st _ (ready-low _ _ _ _ _ _ c.requires.0) c.reserve.ensures))
 
 pub pipe-overflow_add-q : goal.pipe-overflow_add-q
 pipe-overflow_add-q t c =
@@ -1838,22 +1841,22 @@ pub pipe-iterm-t-requires : goal.pipe-iterm-t-requires
 pipe-iterm-t-requires t c =
     let y = c.requires.0 in
     let a = shapes.operator-at _ _ c.requires.3 _ c.requires.1.1 in
-    (omega (arith, c.decreases, c.requires.4, a.1, y.within), ops.pipe-right _ _ _ _ _ _ _ _ c.requires.3 c.requires.4 c.requires.5 c.requires.6 y c.requires.1 c.reserve.ensures _ _ _ _ _ _ c.iterm.ensures.is)
+    (omega (arith, c.decreases, c.requires.4, a.1, y.within), ops.pipe-right _ _ _ _ _ _ _ _ c.requires.3 c.requires.4 c.requires.5 c.requires.6 y c.requires.1 (reserve-of c.args.o _ c.args.self.now.st _ (ready-low _ _ _ _ _ _ c.requires.0) c.reserve.ensures) _ _ _ _ _ _ c.iterm.ensures.is)
 
 pub pipe-place-requires : goal.pipe-place-requires
 pipe-place-requires t c =
     let y = c.requires.0 in
-    omega (arith, (asks_b.pipe-put _ _ _ _ _ _ _ _ c.requires.3 c.requires.4 c.requires.5 c.requires.6 y c.requires.1 c.reserve.ensures _ _ 0 _ _ _ _ _ _ _ _ _ c.requires.2 c.iterm.ensures.is c.iterm-t.ensures.is).0)
+    omega (arith, (asks_b.pipe-put _ _ _ _ _ _ _ _ c.requires.3 c.requires.4 c.requires.5 c.requires.6 y c.requires.1 (reserve-of c.args.o _ c.args.self.now.st _ (ready-low _ _ _ _ _ _ c.requires.0) c.reserve.ensures) _ _ 0 _ _ _ _ _ _ _ _ _ (due-placed c.args.o c.args.self.now.st c.requires.2) c.iterm.ensures.is c.iterm-t.ensures.is).0)
 
 pub pipe-put_mid-requires : goal.pipe-put_mid-requires
 pipe-put_mid-requires t c =
     let y = c.requires.0 in
-    omega (arith, (asks_b.pipe-put _ _ _ _ _ _ _ _ c.requires.3 c.requires.4 c.requires.5 c.requires.6 y c.requires.1 c.reserve.ensures _ _ _ _ _ _ _ _ _ _ _ _ c.requires.2 c.iterm.ensures.is c.iterm-t.ensures.is).1 c.place.ensures.0)
+    omega (arith, (asks_b.pipe-put _ _ _ _ _ _ _ _ c.requires.3 c.requires.4 c.requires.5 c.requires.6 y c.requires.1 (reserve-of c.args.o _ c.args.self.now.st _ (ready-low _ _ _ _ _ _ c.requires.0) c.reserve.ensures) _ _ _ _ _ _ _ _ _ _ _ _ (due-placed c.args.o c.args.self.now.st c.requires.2) c.iterm.ensures.is c.iterm-t.ensures.is).1 (place-spot c.args.o _ _ c.args.self.now.st c.requires.2 (ready-low _ _ _ _ _ _ c.requires.0) c.place.ensures.0))
 
 pub pipe-returns-clause-is : goal.pipe-returns-clause-is
 pipe-returns-clause-is t c =
     let y = c.requires.0 in
-    ops.pipe-did _ _ _ _ _ _ _ _ c.requires.3 c.requires.4 c.requires.5 c.requires.6 y c.requires.1 c.reserve.ensures _ _ _ _ _ _ _ _ _ _ _ _ _ _ _ refl c.iterm.ensures.is refl c.iterm-t.ensures.is c.place.ensures.0 c.place.ensures.1 c.put_mid.ensures
+    ops.pipe-did _ _ _ _ _ _ _ _ c.requires.3 c.requires.4 c.requires.5 c.requires.6 y c.requires.1 (reserve-of c.args.o _ c.args.self.now.st _ (ready-low _ _ _ _ _ _ c.requires.0) c.reserve.ensures) _ _ _ _ _ _ _ _ _ _ _ _ _ _ _ refl c.iterm.ensures.is refl c.iterm-t.ensures.is (place-spot c.args.o _ _ c.args.self.now.st c.requires.2 (ready-low _ _ _ _ _ _ c.requires.0) c.place.ensures.0) (place-next c.args.o _ c.args.self.now.st _ _ c.requires.2 (ready-low _ _ _ _ _ _ c.requires.0) c.place.ensures.1) c.put_mid.ensures
 
 pub piped-overflow_add-q : goal.piped-overflow_add-q
 piped-overflow_add-q t c =
@@ -1877,7 +1880,7 @@ pub piped-reserve-requires : goal.piped-reserve-requires
 piped-reserve-requires t c =
     let y = c.requires.0 in
     let h = asks_b.piped-here _ _ _ c.requires.3 c.requires.4 c.requires.5 c.requires.6 c.requires.1 in
-    asks_b.reserve-room _ _ _ _ _ _ _ _ y c.requires.2 (omega (arith, c.pattern_width-w.ensures.1, h.end, h.last, y.within, y.small))
+    asks_b.reserve-room _ _ _ _ _ _ _ _ y (due-placed c.args.o c.args.self.now.st c.requires.2) (omega (arith, c.pattern_width-w.ensures.1, h.end, h.last, y.within, y.small))
 
 pub piped-overflow_add-p : goal.piped-overflow_add-p
 piped-overflow_add-p t c =
@@ -1887,13 +1890,13 @@ piped-overflow_add-p t c =
 pub piped-iterm-requires : goal.piped-iterm-requires
 piped-iterm-requires t c =
     let y = c.requires.0 in
-    (omega (arith, c.decreases, y.within), pip.piped-left _ _ _ _ _ _ _ _ _ _ c.requires.3 c.requires.4 c.requires.5 c.requires.6 y c.requires.1 c.pattern_width-w.ensures.0 c.pattern_width-w.ensures.1 refl c.reserve.ensures)
+    (omega (arith, c.decreases, y.within), pip.piped-left _ _ _ _ _ _ _ _ _ _ c.requires.3 c.requires.4 c.requires.5 c.requires.6 y c.requires.1 c.pattern_width-w.ensures.0 c.pattern_width-w.ensures.1 refl (reserve-of c.args.o _ c.args.self.now.st _ (ready-low _ _ _ _ _ _ c.requires.0) c.reserve.ensures))
 
 pub piped-under-t-requires : goal.piped-under-t-requires
 piped-under-t-requires t c =
     let y = c.requires.0 in
     let h = asks_b.piped-here _ _ _ c.requires.3 c.requires.4 c.requires.5 c.requires.6 c.requires.1 in
-    (omega (arith, c.decreases, c.requires.4, h.end, h.last, y.within), pip.piped-under _ _ _ _ _ _ _ _ _ _ c.requires.3 c.requires.4 c.requires.5 c.requires.6 y c.requires.1 c.pattern_width-w.ensures.0 c.pattern_width-w.ensures.1 refl c.reserve.ensures _ _ _ _ _ _ c.iterm.ensures.is)
+    (omega (arith, c.decreases, c.requires.4, h.end, h.last, y.within), pip.piped-under _ _ _ _ _ _ _ _ _ _ c.requires.3 c.requires.4 c.requires.5 c.requires.6 y c.requires.1 c.pattern_width-w.ensures.0 c.pattern_width-w.ensures.1 refl (reserve-of c.args.o _ c.args.self.now.st _ (ready-low _ _ _ _ _ _ c.requires.0) c.reserve.ensures) _ _ _ _ _ _ c.iterm.ensures.is)
 
 pub piped-overflow_add-q-2 : goal.piped-overflow_add-q-2
 piped-overflow_add-q-2 t c =
@@ -1905,7 +1908,7 @@ pub piped-pattern-requires : goal.piped-pattern-requires
 piped-pattern-requires t c =
     let y = c.requires.0 in
     let h = asks_b.piped-here _ _ _ c.requires.3 c.requires.4 c.requires.5 c.requires.6 c.requires.1 in
-    let r = pip.piped-pattern _ _ _ _ _ _ _ _ _ _ c.requires.3 c.requires.4 c.requires.5 c.requires.6 y c.requires.1 c.pattern_width-w.ensures.0 c.pattern_width-w.ensures.1 refl c.reserve.ensures _ _ _ _ _ _ _ _ _ _ _ c.iterm.ensures.is c.under-t.ensures.is in
+    let r = pip.piped-pattern _ _ _ _ _ _ _ _ _ _ c.requires.3 c.requires.4 c.requires.5 c.requires.6 y c.requires.1 c.pattern_width-w.ensures.0 c.pattern_width-w.ensures.1 refl (reserve-of c.args.o _ c.args.self.now.st _ (ready-low _ _ _ _ _ _ c.requires.0) c.reserve.ensures) _ _ _ _ _ _ _ _ _ _ _ c.iterm.ensures.is c.under-t.ensures.is in
     (omega (arith, c.decreases, c.requires.4, h.end, h.last, y.within), (r.0, r.1, r.2, omega arith))
 
 pub piped-overflow_add-q-3 : goal.piped-overflow_add-q-3
@@ -1917,17 +1920,17 @@ piped-overflow_add-q-3 t c =
 pub piped-place-requires : goal.piped-place-requires
 piped-place-requires t c =
     let y = c.requires.0 in
-    asks_b.piped-place _ _ _ _ _ _ _ _ _ _ c.requires.3 c.requires.4 c.requires.5 c.requires.6 y c.requires.1 c.pattern_width-w.ensures.0 c.pattern_width-w.ensures.1 refl c.reserve.ensures _ _ _ _ _ _ _ _ _ _ _ _ _ _ c.iterm.ensures.is c.under-t.ensures.is c.pattern.ensures.is c.requires.2
+    asks_b.piped-place _ _ _ _ _ _ _ _ _ _ c.requires.3 c.requires.4 c.requires.5 c.requires.6 y c.requires.1 c.pattern_width-w.ensures.0 c.pattern_width-w.ensures.1 refl (reserve-of c.args.o _ c.args.self.now.st _ (ready-low _ _ _ _ _ _ c.requires.0) c.reserve.ensures) _ _ _ _ _ _ _ _ _ _ _ _ _ _ c.iterm.ensures.is c.under-t.ensures.is c.pattern.ensures.is (due-placed c.args.o c.args.self.now.st c.requires.2)
 
 pub piped-put_piped-requires : goal.piped-put_piped-requires
 piped-put_piped-requires t c =
     let y = c.requires.0 in
-    (pip.piped-put _ _ _ _ _ _ _ _ _ _ c.requires.3 c.requires.4 c.requires.5 c.requires.6 y c.requires.1 c.pattern_width-w.ensures.0 c.pattern_width-w.ensures.1 refl c.reserve.ensures _ _ _ _ _ _ _ _ _ _ _ _ _ _ _ _ _ refl c.iterm.ensures.is refl c.under-t.ensures.is c.pattern.ensures.is c.requires.2 c.place.ensures.0).0
+    (pip.piped-put _ _ _ _ _ _ _ _ _ _ c.requires.3 c.requires.4 c.requires.5 c.requires.6 y c.requires.1 c.pattern_width-w.ensures.0 c.pattern_width-w.ensures.1 refl (reserve-of c.args.o _ c.args.self.now.st _ (ready-low _ _ _ _ _ _ c.requires.0) c.reserve.ensures) _ _ _ _ _ _ _ _ _ _ _ _ _ _ _ _ _ refl c.iterm.ensures.is refl c.under-t.ensures.is c.pattern.ensures.is (due-placed c.args.o c.args.self.now.st c.requires.2) (place-spot c.args.o _ _ c.args.self.now.st c.requires.2 (ready-low _ _ _ _ _ _ c.requires.0) c.place.ensures.0)).0
 
 pub piped-returns-clause-is : goal.piped-returns-clause-is
 piped-returns-clause-is t c =
     let y = c.requires.0 in
-    pip.piped-did _ _ _ _ _ _ _ _ _ _ c.requires.3 c.requires.4 c.requires.5 c.requires.6 y c.requires.1 c.pattern_width-w.ensures.0 c.pattern_width-w.ensures.1 refl c.reserve.ensures _ _ _ _ _ _ _ _ _ _ _ _ _ _ _ _ _ refl c.iterm.ensures.is refl c.under-t.ensures.is c.pattern.ensures.is _ _ c.place.ensures.0 c.place.ensures.1 c.put_piped.ensures
+    pip.piped-did _ _ _ _ _ _ _ _ _ _ c.requires.3 c.requires.4 c.requires.5 c.requires.6 y c.requires.1 c.pattern_width-w.ensures.0 c.pattern_width-w.ensures.1 refl (reserve-of c.args.o _ c.args.self.now.st _ (ready-low _ _ _ _ _ _ c.requires.0) c.reserve.ensures) _ _ _ _ _ _ _ _ _ _ _ _ _ _ _ _ _ refl c.iterm.ensures.is refl c.under-t.ensures.is c.pattern.ensures.is _ _ (place-spot c.args.o _ _ c.args.self.now.st c.requires.2 (ready-low _ _ _ _ _ _ c.requires.0) c.place.ensures.0) (place-next c.args.o _ c.args.self.now.st _ _ c.requires.2 (ready-low _ _ _ _ _ _ c.requires.0) c.place.ensures.1) c.put_piped.ensures
 
 pub project-end_of-requires : goal.project-end_of-requires
 project-end_of-requires t c =
@@ -2073,10 +2076,10 @@ quoted-reserve-requires t c =
     let b = c.args.tree.now in
     let y = c.requires.0 in
     let g = c.requires.1 in
-    let pl = c.requires.2 in
+    let pl = (due-placed c.args.o c.args.self.now.st c.requires.2) in
     let e = c.requires.3 in
     let h = forms_quoted.str-here b c.args.p _ _ c.past-q.ensures c.end_of-z.ensures e g in
-    omega (arith, noting.placed-low c.args.o c.args.self.now.st pl (omega (arith, y.offs)), c.strings_width-w.ensures.1, h.0, y.small)
+    omega (arith, noting.placed-low _ c.args.self.now.st pl (omega (arith, y.offs)), c.strings_width-w.ensures.1, h.0, y.small)
 
 pub quoted-overflow_add-p-3 : goal.quoted-overflow_add-p-3
 quoted-overflow_add-p-3 t c =
@@ -2093,7 +2096,7 @@ quoted-format-requires t c =
     let g = c.requires.1 in
     let e = c.requires.3 in
     let h = forms_quoted.str-here b c.args.p _ _ c.past-q.ensures c.end_of-z.ensures e g in
-    let a = noting.reserved c.args.o _ c.args.self.now.st _ c.reserve.ensures in
+    let a = noting.reserved _ _ c.args.self.now.st _ (reserve-of c.args.o _ c.args.self.now.st _ (ready-low _ _ _ _ _ _ c.requires.0) c.reserve.ensures) in
     ((y.view, c.args.k, y.seen), h.2, y.small, omega (arith, a.0, y.nums), omega (arith, a.1, y.offs, c.strings_width-w.ensures.1, h.0, y.small), omega (arith, a.2, y.errs))
 
 pub quoted-strings-i-requires : goal.quoted-strings-i-requires
@@ -2104,7 +2107,7 @@ quoted-strings-i-requires t c =
     let e = c.requires.3 in
     let h = forms_quoted.str-here b c.args.p _ _ c.past-q.ensures c.end_of-z.ensures e g in
     let few : c.strings_width-w.result ≤ 1048576 = omega (arith, c.strings_width-w.ensures.1, h.0, h.4, y.small) in
-    let w = forms_quoted.str-ready-at b _ _ _ _ _ _ _ _ _ _ _ _ c.past-q.ensures c.end_of-z.ensures e y g few c.reserve.ensures c.format.ensures in
+    let w = forms_quoted.str-ready-at b _ _ _ _ _ _ _ _ _ _ _ _ c.past-q.ensures c.end_of-z.ensures e y g few (reserve-of c.args.o _ c.args.self.now.st _ (ready-low _ _ _ _ _ _ c.requires.0) c.reserve.ensures) c.format.ensures in
     (omega (arith, c.decreases, h.3, h.0, h.4), (w.0, w.1))
 
 pub quoted-sum_or-requires : goal.quoted-sum_or-requires
@@ -2112,11 +2115,11 @@ quoted-sum_or-requires t c =
     let b = c.args.tree.now in
     let y = c.requires.0 in
     let g = c.requires.1 in
-    let pl = c.requires.2 in
+    let pl = (due-placed c.args.o c.args.self.now.st c.requires.2) in
     let e = c.requires.3 in
     let h = forms_quoted.str-here b c.args.p _ _ c.past-q.ensures c.end_of-z.ensures e g in
     let few : c.strings_width-w.result ≤ 1048576 = omega (arith, c.strings_width-w.ensures.1, h.0, h.4, y.small) in
-    forms_quoted.str-summed b _ _ _ _ _ _ _ _ _ _ _ _ _ _ _ _ _ c.past-q.ensures c.end_of-z.ensures e y g few c.reserve.ensures refl c.format.ensures c.strings-i.ensures.is pl
+    forms_quoted.str-summed b _ _ _ _ _ _ _ _ _ _ _ _ _ _ _ _ _ c.past-q.ensures c.end_of-z.ensures e y g few (reserve-of c.args.o _ c.args.self.now.st _ (ready-low _ _ _ _ _ _ c.requires.0) c.reserve.ensures) refl c.format.ensures c.strings-i.ensures.is pl
 
 pub quoted-returns-clause-is : goal.quoted-returns-clause-is
 quoted-returns-clause-is t c =
@@ -2126,7 +2129,7 @@ quoted-returns-clause-is t c =
     let e = c.requires.3 in
     let h = forms_quoted.str-here b c.args.p _ _ c.past-q.ensures c.end_of-z.ensures e g in
     let few : c.strings_width-w.result ≤ 1048576 = omega (arith, c.strings_width-w.ensures.1, h.0, h.4, y.small) in
-    forms_quoted.str-done b _ _ _ _ _ _ _ _ _ _ _ _ _ _ _ _ _ c.past-q.ensures c.end_of-z.ensures e y g few c.reserve.ensures refl c.format.ensures c.strings-i.ensures.is c.strings_width-w.ensures.0 _ _ c.sum_or.ensures
+    forms_quoted.str-done b _ _ _ _ _ _ _ _ _ _ _ _ _ _ _ _ _ c.past-q.ensures c.end_of-z.ensures e y g few (reserve-of c.args.o _ c.args.self.now.st _ (ready-low _ _ _ _ _ _ c.requires.0) c.reserve.ensures) refl c.format.ensures c.strings-i.ensures.is c.strings_width-w.ensures.0 _ _ (λ ts at u a l v. sum-at _ _ _ c.args.o _ c.args.self.now.st _ _ _ _ c.requires.2 (ready-low _ _ _ _ _ _ c.requires.0) (c.sum_or.ensures ts at u a l v))
 
 pub string-bounds-tree-q : goal.string-bounds-tree-q
 string-bounds-tree-q t c =
@@ -2213,14 +2216,14 @@ term-bare-requires t c =
     let y = c.requires.0 in
     let g = c.requires.1 in
     let h = c.requires.2 in
-    asks.bare-fits _ _ _ _ _ _ _ y h
+    asks.bare-fits _ _ _ _ _ _ _ y (due-placed c.args.o c.args.self.now.st h)
 
 pub term-bare-requires-in-161 : goal.term-bare-requires-in-161
 term-bare-requires-in-161 t c =
     let y = c.requires.0 in
     let g = c.requires.1 in
     let h = c.requires.2 in
-    asks.bare-fits _ _ _ _ _ _ _ y h
+    asks.bare-fits _ _ _ _ _ _ _ y (due-placed c.args.o c.args.self.now.st h)
 
 pub term-arr-requires : goal.term-arr-requires
 term-arr-requires t c =
@@ -2332,14 +2335,14 @@ term-returns-in-160-clause-is t c =
     let y = c.requires.0 in
     let g = c.requires.1 in
     let h = c.requires.2 in
-    leaves.id-bare _ _ _ _ _ _ _ _ _ _ _ c.in-160.is (omega (arith, y.offs)) c.bare.ensures
+    leaves.id-bare _ _ _ _ _ _ _ _ _ _ _ c.in-160.is (omega (arith, y.offs)) (bare-of c.args.o _ _ _ _ c.args.self.now.st _ _ _ _ h (ready-low _ _ _ _ _ _ c.requires.0) (ready-low _ _ _ _ _ _ c.requires.0) c.bare.ensures)
 
 pub term-returns-in-161-clause-is : goal.term-returns-in-161-clause-is
 term-returns-in-161-clause-is t c =
     let y = c.requires.0 in
     let g = c.requires.1 in
     let h = c.requires.2 in
-    leaves.recurse-bare _ _ _ _ _ _ _ _ _ _ _ c.in-161.is (omega (arith, y.offs)) c.bare-in-161.ensures
+    leaves.recurse-bare _ _ _ _ _ _ _ _ _ _ _ c.in-161.is (omega (arith, y.offs)) (bare-of c.args.o _ _ _ _ c.args.self.now.st _ _ _ _ h (ready-low _ _ _ _ _ _ c.requires.0) (ready-low _ _ _ _ _ _ c.requires.0) c.bare-in-161.ensures)
 
 pub term-returns-in-162-clause-is : goal.term-returns-in-162-clause-is
 term-returns-in-162-clause-is t c = c.arr.ensures.is _
@@ -2392,7 +2395,7 @@ trial-reserve-requires t c =
     let g = c.requires.1 in
     let e = c.requires.3 in
     let f = asks.stands-fits _ _ g in
-    asks.reserve-fits _ _ _ _ _ _ _ _ y c.requires.2 (omega arith)
+    asks.reserve-fits _ _ _ _ _ _ _ _ y (due-placed c.args.o c.args.self.now.st c.requires.2) (omega arith)
 
 pub trial-iterm-requires : goal.trial-iterm-requires
 trial-iterm-requires t c =
@@ -2400,7 +2403,7 @@ trial-iterm-requires t c =
     let g = c.requires.1 in
     let e = c.requires.3 in
     let f = asks.stands-fits _ _ g in
-    let w = simple.try-ready _ _ _ _ _ _ _ e y g c.reserve.ensures in
+    let w = simple.try-ready _ _ _ _ _ _ _ e y g (reserve-of c.args.o _ c.args.self.now.st _ (ready-low _ _ _ _ _ _ c.requires.0) c.reserve.ensures) in
     (omega (arith, c.decreases, f), w)
 
 pub trial-end_of-requires : goal.trial-end_of-requires
@@ -2409,7 +2412,7 @@ trial-end_of-requires t c =
     let g = c.requires.1 in
     let e = c.requires.3 in
     let f = asks.stands-fits _ _ g in
-    let w = simple.try-ready _ _ _ _ _ _ _ e y g c.reserve.ensures in
+    let w = simple.try-ready _ _ _ _ _ _ _ e y g (reserve-of c.args.o _ c.args.self.now.st _ (ready-low _ _ _ _ _ _ c.requires.0) c.reserve.ensures) in
     asks.stands-fits _ _ w.1
 
 pub trial-end_of-requires-2 : goal.trial-end_of-requires-2
@@ -2426,7 +2429,7 @@ trial-or_empty-requires t c =
     let g = c.requires.1 in
     let e = c.requires.3 in
     let f = asks.stands-fits _ _ g in
-    let w = simple.catch-ready _ _ _ _ _ _ _ _ _ _ _ _ e y g c.reserve.ensures c.iterm.ensures.is in
+    let w = simple.catch-ready _ _ _ _ _ _ _ _ _ _ _ _ e y g (reserve-of c.args.o _ c.args.self.now.st _ (ready-low _ _ _ _ _ _ c.requires.0) c.reserve.ensures) c.iterm.ensures.is in
     (omega (arith, c.decreases, f, c.end_of.ensures), simple.catch-at _ _ _ _ _ _ c.end_of.ensures c.end_of-2.ensures w)
 
 pub trial-place-requires : goal.trial-place-requires
@@ -2435,8 +2438,8 @@ trial-place-requires t c =
     let g = c.requires.1 in
     let e = c.requires.3 in
     let f = asks.stands-fits _ _ g in
-    let w = simple.try-ready _ _ _ _ _ _ _ e y g c.reserve.ensures in
-    asks.place-both _ _ _ _ _ _ _ _ _ _ _ _ _ _ _ _ _ _ _ _ _ _ _ y c.reserve.ensures (omega arith) c.iterm.ensures.is (asks.stands-fits _ _ w.1) c.or_empty.ensures.is (omega (arith, c.end_of-2.ensures, f))
+    let w = simple.try-ready _ _ _ _ _ _ _ e y g (reserve-of c.args.o _ c.args.self.now.st _ (ready-low _ _ _ _ _ _ c.requires.0) c.reserve.ensures) in
+    asks.place-both _ _ _ _ _ _ _ _ _ _ _ _ _ _ _ _ _ _ _ _ _ _ _ y (reserve-of c.args.o _ c.args.self.now.st _ (ready-low _ _ _ _ _ _ c.requires.0) c.reserve.ensures) (omega arith) c.iterm.ensures.is (asks.stands-fits _ _ w.1) c.or_empty.ensures.is (omega (arith, c.end_of-2.ensures, f))
 
 pub trial-put_two-requires : goal.trial-put_two-requires
 trial-put_two-requires t c =
@@ -2444,8 +2447,8 @@ trial-put_two-requires t c =
     let g = c.requires.1 in
     let e = c.requires.3 in
     let f = asks.stands-fits _ _ g in
-    let w = simple.try-ready _ _ _ _ _ _ _ e y g c.reserve.ensures in
-    asks.own-both _ _ _ _ _ _ _ _ _ _ _ _ _ _ _ _ _ _ _ _ _ _ _ _ y c.requires.2 c.reserve.ensures (omega arith) c.iterm.ensures.is (asks.stands-fits _ _ w.1) c.or_empty.ensures.is (omega (arith, c.end_of-2.ensures, f)) c.place.ensures.0
+    let w = simple.try-ready _ _ _ _ _ _ _ e y g (reserve-of c.args.o _ c.args.self.now.st _ (ready-low _ _ _ _ _ _ c.requires.0) c.reserve.ensures) in
+    asks.own-both _ _ _ _ _ _ _ _ _ _ _ _ _ _ _ _ _ _ _ _ _ _ _ _ y (due-placed c.args.o c.args.self.now.st c.requires.2) (reserve-of c.args.o _ c.args.self.now.st _ (ready-low _ _ _ _ _ _ c.requires.0) c.reserve.ensures) (omega arith) c.iterm.ensures.is (asks.stands-fits _ _ w.1) c.or_empty.ensures.is (omega (arith, c.end_of-2.ensures, f)) (place-spot c.args.o _ _ c.args.self.now.st c.requires.2 (ready-low _ _ _ _ _ _ c.requires.0) c.place.ensures.0)
 
 pub trial-returns-clause-is : goal.trial-returns-clause-is
 trial-returns-clause-is t c =
@@ -2453,7 +2456,7 @@ trial-returns-clause-is t c =
     let g = c.requires.1 in
     let e = c.requires.3 in
     let f = asks.stands-fits _ _ g in
-    simple.try-did _ _ _ _ _ _ _ _ _ _ _ _ _ _ _ _ _ _ _ _ e y g c.reserve.ensures refl c.iterm.ensures.is refl (simple.catch-or _ _ _ _ _ _ _ _ _ _ _ c.end_of.ensures c.end_of-2.ensures c.or_empty.ensures.is) c.place.ensures.0 c.place.ensures.1 c.put_two.ensures
+    simple.try-did _ _ _ _ _ _ _ _ _ _ _ _ _ _ _ _ _ _ _ _ e y g (reserve-of c.args.o _ c.args.self.now.st _ (ready-low _ _ _ _ _ _ c.requires.0) c.reserve.ensures) refl c.iterm.ensures.is refl (simple.catch-or _ _ _ _ _ _ _ _ _ _ _ c.end_of.ensures c.end_of-2.ensures c.or_empty.ensures.is) (place-spot c.args.o _ _ c.args.self.now.st c.requires.2 (ready-low _ _ _ _ _ _ c.requires.0) c.place.ensures.0) (place-next c.args.o _ c.args.self.now.st _ _ c.requires.2 (ready-low _ _ _ _ _ _ c.requires.0) c.place.ensures.1) c.put_two.ensures
 
 pub under-bounds-self-1 : goal.under-bounds-self-1
 under-bounds-self-1 t c =

@@ -2,8 +2,8 @@
 use Rattle.puts.proofs.Spots.{placed-late, placed}
 use Rattle.puts.proofs.state.State.place.Goals as goal
 
-pub returns-then-o-eq-LATE : goal.returns-then-o-eq-LATE
-returns-then-o-eq-LATE c = let a = c.args in placed-late a.self.now a.o a.w c.if-o-eq-LATE.true
+pub returns-in-Some : goal.returns-in-Some
+returns-in-Some c = let a = c.args in rw c.in-Some.is (placed a.self.now c.in-Some.x a.w)
 
 pub returns : goal.returns
-returns c = let a = c.args in placed a.self.now a.o a.w c.if-o-eq-LATE.false
+returns c = let a = c.args in rw c.in_default.is (placed-late a.self.now a.w)
