@@ -18,8 +18,6 @@ use Rattle.tree.specs.Rose as rose
 use Rattle.tree.specs.Tree.{Number, Globals, Import, Uses, Module, Main, Tree, no_globals, a_globals}
 use Rattle.tree.specs.Form.{At, f_name, f_number, f_numbers, f_natives, f_term, f_import, f_imports, f_uses, f_globals, f_module, f_modules, f_main, f_tree}
 use Rattle.tree.specs.Numbers.{imported, included, below, uses_below, numbered_from, numbered, two_at, Held, none, more, Using, From}
-use Rattle.tree.specs.Places.{Chain}
-use Rattle.tree.specs.Places as Places
 use Rattle.tree.proofs.Leaves.{both_yes, both-no}
 
 -- ---- where the numbers stand
@@ -176,14 +174,6 @@ room_at b d e q h x = let f = first_of b d e x.0 q h x.1 in (f.room, f.fits)
 
 pub rest_at : (b : List ℕ) (d e q n : ℕ) → q < e → ((vs : List ℕ) × Held b d e vs q) → n ≡ end_of b q → (vs : List ℕ) × Held b d e vs n
 rest_at b d e q n h x k = let f = first_of b d e x.0 q h x.1 in (f.rest, subst (Held b d e f.rest) (sym k) f.held)
-
--- fields that hold numbers stand one after the other
-held-chain : (b : List ℕ) (d e : ℕ) (vs : List ℕ) (q : ℕ) → Held b d e vs q → Chain b e q
-held-chain b d e vs q (none h) = Places.over (omega arith)
-held-chain b d e us q (more {v} {vs} x y w r) = Places.field y (held-chain b d e vs (end_of b q) r)
-
-pub chained : (b : List ℕ) (d e q : ℕ) → ((vs : List ℕ) × Held b d e vs q) → Chain b e q
-chained b d e q x = held-chain b d e x.0 q x.1
 
 -- ---- after natives and globals
 

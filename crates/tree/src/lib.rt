@@ -5,7 +5,6 @@
 
 mod input;
 mod open;
-mod places;
 mod table;
 
 ghost use Rattle.std.specs.Prelude.{◌≡◌, List, [], ℕ, ◌+◌, ◌-◌, ◌/◌, ◌%◌, ◌≤◌, ◌<◌, length, get_or, IfErr};
@@ -26,7 +25,6 @@ ghost use Rattle.tree.specs.Formed.{Formed, Stepped, AtMost, only};
 use fields::Refusal;
 use input::Input;
 use open::Open;
-use places::fields;
 use table::{Item, Leaf, Mode, Shape};
 
 // The tags that a walk over a tree asks for.
@@ -215,10 +213,13 @@ fn below(b: &Input, p: usize, e: usize, d: usize, m: usize) -> bool
     requires { (e ≤ length b.now) × ((vs : List ℕ) × Held b.now d e vs p) }
     ensures { (vs : List ℕ) → Held b.now d e vs p → result ≡ below m vs }
 {
-    for q in fields(b, p, e) {
+    let mut q = p;
+    // Kept: `while`, since the step is each field's own length.
+    while q < e {
         if b.number(q + d) >= m {
             return false;
         }
+        q = b.end_of(q);
     }
     true
 }
