@@ -214,7 +214,7 @@ fn below(b: &Input, p: usize, e: usize, d: usize, m: usize) -> bool
     ensures { (vs : List ℕ) → Held b.now d e vs p → result ≡ below m vs }
 {
     let mut q = p;
-    // Kept: `while`, since the step is each field's own length.
+    // Kept: `while`, since the step is each field's own length; the iterator that goes so, `fields` of `reads`, asks for a tree that is known to be right.
     while q < e {
         if b.number(q + d) >= m {
             return false;
@@ -254,7 +254,7 @@ fn numbered(b: &Input) -> bool
 {
     let mut p = modules(b);
     let mut m = 0;
-    // Kept: `while`, since the step is each field's own length.
+    // Kept: `while`, since the step is each field's own length; the iterator that goes so, `fields` of `reads`, asks for a tree that is known to be right.
     while p < b.len() {
         if !uses_ok(b, p, m) {
             return false;
