@@ -41,6 +41,7 @@ use reads::{bytes, width};
 
 // What is written as the compiler goes: the rows, how far it is, and the room.
 // Kept: the tree, which is only read, stands beside them: as a field, that a call leaves it as it was would be a clause of each method and a step in each proof behind a call.
+// Kept: `Ready`, `Stands` and `Due` are asked by each method, since they speak of the place where it is called and of the rows in use there, which no field holds.
 #[derive(Drop)]
 pub struct Compiler<'r, 'o> {
     pub rows: &'r mut [u64],
@@ -78,6 +79,7 @@ impl Compiler<'_, '_> {
         ensures is { Did tree.now p self.old.rows.now self.new.rows.now k (at_of o) self.old.st self.new.st self.old.out.now self.new.out.now allowed result }
     {
         let tag = tree[p];
+        // Kept: a `match` on the tag, as the forms of terms take different parameters.
         match tag {
             0xA0 => bare(&mut self.st, self.out, o, 0x50),
             0xA1 => bare(&mut self.st, self.out, o, 0x51),
@@ -252,10 +254,10 @@ impl Compiler<'_, '_> {
         ensures same { Same self.old self.new }
         ensures is { Paired tree.now q z self.old.rows.now self.new.rows.now k self.old.st self.new.st self.old.out.now self.new.out.now allowed result }
     {
-        // Kept: the place moves in a loop, which ends at another tag, and the place where it ends is given back.
         let mut p = q;
         let mut i = k;
         let mut t = 0;
+        // Kept: another tag ends the pairs, where `fields` goes up to a place that is known, and the place of that tag is given back.
         while bytes::is_tag(tree, p, z, 0xB8) {
             let a = self.st.terms;
             self.iterm(tree, p + 3, i, 0);
@@ -770,6 +772,7 @@ impl Compiler<'_, '_> {
         0
     }
 
+    // Kept: `parts`, `strings` and `entries` are three loops, since each calls another method, and a closure for it would borrow the compiler whole.
     // The entries of an object from q up to z; a note for each has the numbers of key and value. The row after them.
     #[cycle(compiling)]
     fn entries(&mut self, tree: &[u8], q: usize, z: usize, k: usize) -> usize
@@ -922,9 +925,9 @@ impl Compiler<'_, '_> {
         ensures same { Same self.old self.new }
         ensures is { Scoped tree.now q self.old.rows.now self.new.rows.now k self.old.st self.new.st self.old.out.now self.new.out.now allowed result }
     {
-        // Kept: the place moves in a loop, which ends at another tag, and the place where it ends is given back.
         let mut p = q;
         let mut i = k;
+        // Kept: the tag of the term behind them ends the definitions, and its place is given back.
         while tree[p] == 0x8C {
             self.open_def(tree, p, i, allowed);
             p = end_of(tree, p);

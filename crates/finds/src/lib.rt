@@ -42,8 +42,8 @@ fn seek(tree: &[u8], rows: &[u64], j: usize, x: &Sought) -> Option<usize>
     requires { Along tree.now rows.now j }
     ensures { Gives (Seeks tree.now rows.now j x.now.name.now x.now.word x.now.key) result }
 {
-    // Kept: a link is part of one number of fixed memory, and row 0 is none.
     let mut i = j;
+    // Kept: a link is part of one number of fixed memory, and row 0 is none.
     while i != 0 {
         if is_row(tree, rows, i, x) {
             return Some(i);

@@ -30,8 +30,8 @@ fn body_of(b: &[u8], p: usize) -> usize
     requires { (t : Term) × TermAt b.now t p }
     ensures { ((t : Term) → TermAt b.now t p → TermAt b.now (body_of t) result) × (p ≤ result) × (end_of b.now result ≤ end_of b.now p) }
 {
-    // Kept: what ends the walk is the tag at its place, and no count or end of fields.
     let mut q = p;
+    // Kept: what ends the walk is the tag at its place, and no count or end of fields.
     while b[q] == 0xA9 {
         q = bytes::after_defs(b, q + 3);
     }
@@ -51,8 +51,8 @@ fn declares(b: &[u8], q: usize, x: &[u8], a: usize) -> bool
     requires { (ds : Defs) × (t : Term) × (z : ℕ) × Row b.now (f_defs ds (rcons (f_term t) rnil)) q z × (z ≤ length b.now) }
     ensures { (ds : Defs) (t : Term) (z : ℕ) → Row b.now (f_defs ds (rcons (f_term t) rnil)) q z → result ≡ declared_by ds x.now a }
 {
-    // Kept: the tag of the term behind them ends the definitions, and no end of fields.
     let mut p = q;
+    // Kept: the tag of the term behind them ends the definitions, and no end of fields.
     while b[p] == 0x8C {
         if is_def(b, p, x, a) {
             return true;
@@ -67,8 +67,8 @@ fn defines(b: &[u8], p: usize, x: &[u8], a: usize) -> bool
     requires { (t : Term) × TermAt b.now t p }
     ensures { Defines b.now p x.now a result }
 {
-    // Kept: as in body_of, the tag at its place ends the walk.
     let mut q = p;
+    // Kept: what ends the walk is the tag at its place, as in `body_of`.
     while b[q] == 0xA9 {
         if declares(b, q + 3, x, a) {
             return true;

@@ -1,4 +1,7 @@
 // The cycle: tokens, a token, a block, a string, an escape call one another. Siblings are read by a loop, what is nested by a call.
+//
+// Kept: two rooms are two parameters: a scan puts errors alone, and of a room inside another struct nothing is known once its borrow ends.
+// Kept: `Ready` and `Within` are asked by each function, since they speak of the place where it is called.
 ghost use Rattle.std.specs.Prelude.{◌≡◌, ◌+◌, ◌-◌, ◌*◌, ◌≤◌, ◌<◌, length};
 ghost use Rattle.lexer.specs.Scan.{byte, past};
 ghost use Rattle.lexer.specs.Kind.{kind, plain};

@@ -1,4 +1,7 @@
 // Records: each is put as far as there is room. Over an empty room nothing is written.
+//
+// Kept: room and offset are two parameters: a record goes to the place that was reserved for it, and what is put next goes elsewhere.
+// Kept: `put_bare` to `put_filter_error` are `put_numbers` by the count of numbers, one line each, and say in a caller which record that is.
 ghost use Rattle.std.specs.Prelude.{◌≡◌, [], ◌∷◌, ◌++◌, ◌+◌, ◌*◌, ◌/◌, ◌%◌, ◌<◌, ◌^◌, length, set};
 ghost use Rattle.fields.specs.Number.{number};
 ghost use Rattle.fields.specs.Field.{field};

@@ -1,5 +1,7 @@
 // Tree bytes: where a field ends, how many fields follow each other, texts and how they compare. A place is the offset of a field's tag byte.
 // Every reader asks that the field lies within the bytes: `end_of b p ≤ length b`.
+//
+// Kept: the bytes and a place in them are two parameters: a place is a number that rows, records and errors keep, and each reader goes on to others.
 ghost use Rattle.std.specs.Prelude.{◌≡◌, List, ℕ, ◌+◌, ◌*◌, ◌≤◌, ◌<◌, length, take, drop, SomeIff};
 ghost use Rattle.tree.specs.Rose.{Roses, rnil, rcons, end_of, text_of, Row};
 ghost use Rattle.tree.specs.Tree.{Name, Term, Defs};

@@ -1,4 +1,6 @@
 // The own records of terms with many members, whose numbers are in notes; of calls, by what the name means; and the errors of calls.
+//
+// Kept: tree, rows, room and offset are parameters of their own: each function takes those that it reads, and `&` says that it leaves them.
 
 #![tactic(auto)]
 
