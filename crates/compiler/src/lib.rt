@@ -4,6 +4,8 @@
 // numbers of members that a record needs are kept in rows too, as notes.
 //
 // Every function of the cycle takes the tree, a place in it, and how many of the rows are used.
+//
+// Kept: `as` for numbers in cells, which are u64: there is no `From` between it and usize.
 
 #![tactic(auto)]
 

@@ -109,6 +109,7 @@ fn own_width(b: &[u8], p: usize, q: usize, rows: &[u64]) -> usize
     ensures { (WidthUnder b.now rows.now p q result) × (result + 2 * q ≤ 2 * end_of b.now q + 8) }
 {
     let tag = b[q];
+    // Kept: a `match` on the tag, as the forms of terms take different parameters.
     match tag {
         0xA0 | 0xA1 => 3,
         0xA2 | 0xA3 | 0xA4 => 5,
