@@ -13,7 +13,7 @@
 //   number 2: next row of the bucket + 2^14 * head + 2^30 * place of the name's field + 2^45 * kind + 2^48 * bindings before it
 //   number 3: a definition's tail set; what a note keeps
 //
-// Kept: the memory is one slice that a caller lends, and a callee's rows are the part behind `4 * k` of it: so a row is its index, and a cell a number.
+// Kept: the memory is one slice that a caller lends, and a callee's rows are the part behind `4 * k` of it: so a row is its index, and a cell a number. That the row lies in the slice is asked by each reader: a type that says so would be made for one read.
 // Kept: `as` between usize and u64, for which there is no `From`.
 
 #![tactic(auto)]

@@ -326,6 +326,7 @@ impl Compiler<'_, '_> {
 }
 
 // "Tail places: right of Pipe and Alt, both sides of Comma": what the left of operator x may return, and the right.
+// Kept: two functions, as the rule has two sides, of two lines each.
 fn left_set(x: u8, allowed: u64) -> u64
     ensures { result ≡ left_allows (operator_of x) allowed }
 {
@@ -891,6 +892,7 @@ impl Compiler<'_, '_> {
 // ---- definitions
 
 // Where the own record stands before the definitions, its length is that of the term's that they are for, which may be a call of one of them.
+// Kept: beside `State::reserve`, which takes a length: here it is looked up, and where none is reserved that would be for nothing.
 fn reserve_def(tree: &[u8], p: usize, rows: &[u64], st: &mut State, o: Option<usize>)
     requires { ((k : ℕ) × Ready tree.now rows.now k (p + 1) (end_of tree.now p) st.old) × Stands tree.now p × Due o st.old × (get_or tree.now p 0 ≡ 0xA9) }
     ensures { Reserved tree.now p rows.now (at_of o) st.old st.new }

@@ -17,6 +17,7 @@ pub fn put1(out: &mut [u8], o: usize, b: u8)
     }
 }
 
+// Kept: the two bytes of a number by themselves, since a record's bytes are stored one by one, with no array of two between.
 // The lower byte of a number.
 fn low(a: usize) -> u8
     ensures { result ≡ a % 256 }
@@ -44,9 +45,7 @@ fn put_bytes<const N: usize>(out: &mut [u8], o: usize, bytes: [u8; N])
         put_some(out, o, bytes);
         return;
     }
-    for i in 0..N {
-        out[o + i] = bytes[i];
-    }
+    out[o..o + N].copy_from_slice(&bytes);
 }
 
 // The same, as far as there is room. A function of its own, so that elsewhere the bytes are no array in memory.

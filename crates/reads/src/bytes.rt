@@ -1,6 +1,7 @@
 // Tree bytes: where a field ends, how many fields follow each other, texts and how they compare. A place is the offset of a field's tag byte.
 // Every reader asks that the field lies within the bytes: `end_of b p ≤ length b`.
 //
+// Kept: tags and operators are bytes, those of docs/TREE.md and of document 01's listing, of which the definitions speak: an enum would be made of each byte and taken apart in the same line.
 // Kept: the bytes and a place in them are two parameters: a place is a number that rows, records and errors keep, and each reader goes on to others.
 ghost use Rattle.std.specs.Prelude.{◌≡◌, List, ℕ, ◌+◌, ◌*◌, ◌≤◌, ◌<◌, length, take, drop, SomeIff};
 ghost use Rattle.tree.specs.Rose.{Roses, rnil, rcons, end_of, text_of, Row};
@@ -121,7 +122,7 @@ fn tagged(b: &[u8], q: usize, tag: u8) -> Sig
 {
     let mut i = 0;
     let mut p = q;
-    // Kept: only the next field's tag says where these end, and `fields` goes up to a place that is known.
+    // Kept: only the next field's tag says where these end; `params` and `after_defs`, which are public, are given no end, and `fields` asks for one.
     while b[p] == tag {
         p = end_of(b, p);
         i += 1;
