@@ -62,24 +62,24 @@ module _ (s : List ℕ) (from : ℕ) where
       let n = bare-not s at b i e in
       record { is = sym (space-stop s at n.0 n.1) ∙ g.is; low = g.low; high = g.high }
 
-  pub one-blank : (at n : ℕ) → Spacing s from at → (n ≡ blank s at) × (at + n ≤ length s) → 0 < n → Spacing s from (at + n)
-  one-blank at n g b h = record {
-    is = rw b.0 (sym (space-blank s at g.high (omega (arith, b.0))) ∙ g.is);
+  pub one-blank : (at n : ℕ) → Spacing s from at → (n ≡ blank s at) × (0 < n) × (at + n ≤ length s) → Spacing s from (at + n)
+  one-blank at n g b = record {
+    is = rw b.0 (sym (space-blank s at g.high (omega (arith, b.0, b.1))) ∙ g.is);
     low = omega (arith, g.low);
-    high = b.1;
+    high = b.2;
   }
 
-  pub one-comment : (at n b : ℕ) → Spacing s from at → (n ≡ blank s at) × (at + n ≤ length s) → n ≤ 0 → Byte s at b → b ≡ 0x23 → Commenting s from (at + 1) (at + 1)
-  one-comment at n b g k z i h = record {
-    is = sym (space-comment s at (omega (arith, k.0)) (sym i.is ∙ h)) ∙ g.is;
+  pub one-comment : (at b : ℕ) → Spacing s from at → blank s at ≡ 0 → Byte s at b → b ≡ 0x23 → Commenting s from (at + 1) (at + 1)
+  one-comment at b g k i h = record {
+    is = sym (space-comment s at k (sym i.is ∙ h)) ∙ g.is;
     low = omega (arith, g.low);
     moved = omega arith;
     high = omega (arith, i.within);
   }
 
-  pub no-comment : (at n b : ℕ) → Spacing s from at → (n ≡ blank s at) × (at + n ≤ length s) → n ≤ 0 → Byte s at b → (b ≡ 0x23 → ⊥) → Reaches (space s from) s from at
-  no-comment at n b g k z i h = record {
-    is = sym (space-stop s at (omega (arith, k.0)) (λ e. h (i.is ∙ e))) ∙ g.is;
+  pub no-comment : (at b : ℕ) → Spacing s from at → blank s at ≡ 0 → Byte s at b → (b ≡ 0x23 → ⊥) → Reaches (space s from) s from at
+  no-comment at b g k i h = record {
+    is = sym (space-stop s at k (λ e. h (i.is ∙ e))) ∙ g.is;
     low = g.low;
     high = g.high;
   }

@@ -1,5 +1,5 @@
 // White space and comments.
-ghost use Rattle.std.specs.Prelude.{◌≡◌, ◌==◌, Bool, ℕ, ◌+◌, ◌-◌, ◌≤◌, ◌<◌, length};
+ghost use Rattle.std.specs.Prelude.{◌≡◌, ◌==◌, Bool, ℕ, ◌+◌, ◌-◌, ◌≤◌, ◌<◌, MatchOption, length};
 ghost use Rattle.std.specs.List.{list_all, suffix_len};
 ghost use Rattle.lexer.specs.Scan.{past};
 ghost use Rattle.lexer.specs.Space.{blank, in_line, goes_on, space};
@@ -7,18 +7,18 @@ ghost use Rattle.lexer.specs.Meets.{bare, Reaches, Spacing, Tests};
 
 use crate::scan::{byte_at, past};
 
-// How many bytes the white space character at a place has. One of ASCII is told by its byte.
-fn blank(s: &[u8], at: usize) -> usize
+// How many bytes the white space character at a place has, if one stands there. One of ASCII is told by its byte.
+fn blank(s: &[u8], at: usize) -> Option<usize>
     requires { at ≤ length s.now }
-    ensures { (result ≡ blank s.now at) × (at + result ≤ length s.now) }
+    ensures { MatchOption result (blank s.now at ≡ 0) (λ n. (n ≡ blank s.now at) × (0 < n) × (at + n ≤ length s.now)) }
 {
     match byte_at(s, at) {
         0x80..=0xFF => match text::char_at(s, at) {
-            Some(c) if text::white_space(c.code) => c.len,
-            _ => 0,
+            Some(c) if text::white_space(c.code) => Some(c.len),
+            _ => None,
         },
-        b'\t'..=b'\r' | b' ' => 1,
-        _ => 0,
+        b'\t'..=b'\r' | b' ' => Some(1),
+        _ => None,
     }
 }
 
@@ -92,8 +92,7 @@ pub fn space(s: &[u8], from: usize) -> usize
     let mut at = from;
     'space: loop {
         at = spaces(s, at);
-        let n = blank(s, at);
-        if n > 0 {
+        if let Some(n) = blank(s, at) {
             at += n;
             continue 'space;
         }

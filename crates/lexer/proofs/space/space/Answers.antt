@@ -3,11 +3,11 @@ use Rattle.lexer.proofs.Spacing.{on, one-blank, one-comment, no-comment, line_on
 use native.Mathlib.Omega.{arith}
 use Rattle.lexer.proofs.space.space.Goals as goal
 
-pub space-preserved-then-n-gt0 : goal.space-preserved-then-n-gt0
-space-preserved-then-n-gt0 c = one-blank _ _ _ _ (on _ _ _ _ c.space.invariant c.spaces-at.ensures) c.blank-n.ensures c.if-n-gt0.true
+pub space-preserved-in-Some : goal.space-preserved-in-Some
+space-preserved-in-Some c = one-blank _ _ _ _ (on _ _ _ _ c.space.invariant c.spaces-at.ensures) c.in-Some.ensures
 
 pub lines-init : goal.lines-init
-lines-init c = one-comment _ _ _ _ _ (on _ _ _ _ c.space.invariant c.spaces-at.ensures) c.blank-n.ensures c.if-n-gt0.false c.byte_at.ensures c.if-byte_at-ne35.false
+lines-init c = one-comment _ _ _ _ (on _ _ _ _ c.space.invariant c.spaces-at.ensures) c.in_default.ensures c.byte_at.ensures c.if-byte_at-ne35.false
 
 pub space-preserved : goal.space-preserved
 space-preserved c = line-off _ _ _ _ _ _ _ c.lines.invariant c.line_end-end.ensures c.goes_on-on.ensures c.min-at.ensures c.if-not-on.true
@@ -19,4 +19,4 @@ pub lines-preserved : goal.lines-preserved
 lines-preserved c = line_on _ _ _ _ _ _ _ c.lines.invariant c.line_end-end.ensures c.goes_on-on.ensures c.min-at.ensures c.if-not-on.false
 
 pub returns : goal.returns
-returns c = no-comment _ _ _ _ _ (on _ _ _ _ c.space.invariant c.spaces-at.ensures) c.blank-n.ensures c.if-n-gt0.false c.byte_at.ensures c.if-byte_at-ne35.true
+returns c = no-comment _ _ _ _ (on _ _ _ _ c.space.invariant c.spaces-at.ensures) c.in_default.ensures c.byte_at.ensures c.if-byte_at-ne35.true
