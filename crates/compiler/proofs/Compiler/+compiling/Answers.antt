@@ -1,5 +1,5 @@
 use Prim.Native.Nat.{ℕ, ◌+◌, ◌-◌, ◌≤◌, ◌<◌}
-use Rattle.compiler.specs.FormsD.Args.{passing-start, passing-fits, passing-ready, passing-note, passing-more, passing-done}
+use Rattle.compiler.specs.FormsD.Args.{args-start, args-on, args-few, args-ready, args-note, args-more, args-done}
 use lib.ListN.{length}
 use mathlib.Core.Path.{◌≡◌, refl, sym, subst, ◌∙◌}
 use native.Mathlib.Omega.{arith}
@@ -27,7 +27,7 @@ use Prim.Native.Nat.{ℕ, ◌-◌}
 use mathlib.Core.Path.{sym, ◌∙◌}
 use Rattle.finds.specs.Numbers.{numbers}
 use Rattle.compiler.specs.FormsC.Paths as forms_paths
-use Rattle.compiler.specs.FormsD.Calls.{membered, call-here, call-members, call-name, call-short, call_known, call-reserve, call-ready, call-fail, call-place, call-put, call-did}
+use Rattle.compiler.specs.FormsD.Calls.{membered, call-here, call-members, call-name, call-short, call_known, call-reserve, call-args, call-ready, call-fail, call-place, call-put, call-did}
 use Rattle.compiler.specs.FormsD.Defs.{ready-cells, grown, def-ready, def_body, def-within, further, def-close, def-did}
 use Rattle.compiler.specs.FormsD.Defs.{ready-cells, scoping-start, scoping-fits, scoping-ready, scoping-more, scoping-done}
 use Rattle.compiler.specs.FormsC.Objects as forms_objects
@@ -48,30 +48,43 @@ use Rattle.compiler.specs.FormsC.Strings as forms_strings
 use Rattle.rows.specs.Opened as opened
 use Rattle.compiler.proofs.Compiler.+compiling.Goals as goal
 
-pub args-loop-i-init : goal.args-loop-i-init
-args-loop-i-init t c = (record { rows = refl; out = refl }, passing-start _ _ _ _ _ _ _ c.requires)
-
-pub args-overflow_add-k : goal.args-overflow_add-k
-args-overflow_add-k t c = let o = c.loop-i.invariant.1 in omega (arith, o.some.1.spare, o.some.1.seen.small)
+pub args-loop-p-init : goal.args-loop-p-init
+args-loop-p-init t c =
+    let b = c.args.tree.now in
+    let y = c.requires.0 in
+    let g = c.requires.1 in
+    let i = begun b c.args.q c.args.z _ c.into_iter-p-iterator.result c.into_iter-p-iterator.ensures.into_iter_gives c.fields-p-items.ensures y.within (_, g.1) in
+    (i.0, i.1, record { rows = refl; out = refl }, args-on _ _ _ _ _ _ _ _ _ _ _ _ _ i.2 (args-start b _ _ _ _ _ _ y))
 
 pub args-iterm-requires : goal.args-iterm-requires
-args-iterm-requires t c = let o = c.loop-i.invariant.1 in
-    (omega (arith, c.decreases, o.low, passing-fits _ _ _ _ _ _ _ _ _ _ _ _ o c.loop-i-test.true), passing-ready _ _ _ _ _ _ _ _ _ _ _ _ o c.loop-i-test.true)
-
-pub args-overflow_add-k-in-loop-i : goal.args-overflow_add-k-in-loop-i
-args-overflow_add-k-in-loop-i t c = let o = c.loop-i.invariant.1 in omega (arith, o.some.1.spare, o.some.1.seen.small)
+args-iterm-requires t c =
+    let n = turn c.loop-p.p-iterator c.next.new.self c.loop-p.invariant.1 c.in-Some.ensures.steps c.in-Some.ensures.goes.keeps in
+    let v = args-on _ _ _ _ _ _ _ _ _ _ _ _ _ n.here c.loop-p.invariant.3 in
+    let w = args-ready _ _ _ _ _ _ _ _ _ _ _ _ v c.requires.1 n.within in
+    (omega (arith, c.decreases, w.0, w.1), (w.2, w.3))
 
 pub args-note-requires : goal.args-note-requires
-args-note-requires t c = let w = passing-note _ _ _ _ _ _ _ _ _ _ _ _ c.loop-i.invariant.1 _ _ _ _ c.iterm.ensures.is c.loop-i-test.true _ refl in (w.0, w.1)
+args-note-requires t c =
+    let n = turn c.loop-p.p-iterator c.next.new.self c.loop-p.invariant.1 c.in-Some.ensures.steps c.in-Some.ensures.goes.keeps in
+    let v = args-on _ _ _ _ _ _ _ _ _ _ _ _ _ n.here c.loop-p.invariant.3 in
+    args-note _ _ _ _ _ _ _ _ _ _ _ _ v c.requires.1 n.within _ _ _ _ c.iterm.ensures.is _ refl
 
-pub args-end_of-p-requires : goal.args-end_of-p-requires
-args-end_of-p-requires t c = passing-fits _ _ _ _ _ _ _ _ _ _ _ _ c.loop-i.invariant.1 c.loop-i-test.true
+pub args-overflow_add-i : goal.args-overflow_add-i
+args-overflow_add-i t c =
+    let n = turn c.loop-p.p-iterator c.next.new.self c.loop-p.invariant.1 c.in-Some.ensures.steps c.in-Some.ensures.goes.keeps in
+    let v = args-on _ _ _ _ _ _ _ _ _ _ _ _ _ n.here c.loop-p.invariant.3 in
+    omega (arith, args-few _ _ _ _ _ _ _ _ _ _ _ _ v c.requires.1)
 
-pub args-loop-i-preserved : goal.args-loop-i-preserved
-args-loop-i-preserved t c = (record { rows = c.iterm.ensures.same.rows ∙ c.loop-i.invariant.0.rows; out = c.iterm.ensures.same.out ∙ c.loop-i.invariant.0.out }, passing-more _ _ _ _ _ _ _ _ _ _ _ _ c.loop-i.invariant.1 _ _ _ _ c.iterm.ensures.is c.loop-i-test.true _ refl _ c.note.ensures _ c.end_of-p.ensures)
+pub args-loop-p-preserved : goal.args-loop-p-preserved
+args-loop-p-preserved t c =
+    let n = turn c.loop-p.p-iterator c.next.new.self c.loop-p.invariant.1 c.in-Some.ensures.steps c.in-Some.ensures.goes.keeps in
+    let v = args-on _ _ _ _ _ _ _ _ _ _ _ _ _ n.here c.loop-p.invariant.3 in
+    (c.in-Some.ensures.goes.keeps, n.over, record { rows = c.iterm.ensures.same.rows ∙ c.loop-p.invariant.2.rows; out = c.iterm.ensures.same.out ∙ c.loop-p.invariant.2.out }, args-more _ _ _ _ _ _ _ _ _ _ _ _ v c.requires.1 n.within _ _ _ _ c.iterm.ensures.is _ refl _ c.note.ensures _ n.next)
 
 pub args-returns-clause-is : goal.args-returns-clause-is
-args-returns-clause-is t c = passing-done _ _ _ _ _ _ _ _ _ _ _ _ c.loop-i.invariant.1 c.loop-i-test.false
+args-returns-clause-is t c =
+    let l = turned c.loop-p.p-iterator c.next.new.self c.loop-p.invariant.1 c.in-None.ensures.steps in
+    args-done _ _ _ _ _ _ _ _ _ _ _ _ c.loop-p.invariant.3 l
 
 pub arr-reserve-requires : goal.arr-reserve-requires
 arr-reserve-requires t c =
@@ -281,30 +294,30 @@ call-overflow_add-p t c = let y = c.requires.0 in omega (arith, y.small, y.withi
 pub call-end_of-q-requires : goal.call-end_of-q-requires
 call-end_of-q-requires t c = (call-here _ _ c.requires.3 c.requires.1).1
 
-pub call-end_of-requires : goal.call-end_of-requires
-call-end_of-requires t c = (call-here _ _ c.requires.3 c.requires.1).0
+pub call-end_of-z-requires : goal.call-end_of-z-requires
+call-end_of-z-requires t c = (call-here _ _ c.requires.3 c.requires.1).0
 
 pub call-members-a-requires : goal.call-members-a-requires
-call-members-a-requires t c = call-members _ _ _ _ c.requires.3 c.requires.1 c.end_of-q.ensures c.end_of.ensures
+call-members-a-requires t c = call-members _ _ _ _ c.requires.3 c.requires.1 c.end_of-q.ensures c.end_of-z.ensures
 
 pub call-overflow_add-p-2 : goal.call-overflow_add-p-2
 call-overflow_add-p-2 t c = let y = c.requires.0 in omega (arith, y.small, y.within, y.order)
 
 pub call-slice_bounds-meaning-count : goal.call-slice_bounds-meaning-count
 call-slice_bounds-meaning-count t c = let y = c.requires.0 in
-    let h = membered _ _ _ _ _ c.end_of.ensures c.members-a.ensures in
+    let h = membered _ _ _ _ _ c.end_of-z.ensures c.members-a.ensures in
     let k = call_known _ _ _ _ c.requires.3 c.requires.1 c.end_of-q.ensures h in
     omega (arith, k.low)
 
 pub call-slice_bounds-meaning-start : goal.call-slice_bounds-meaning-start
 call-slice_bounds-meaning-start t c = let y = c.requires.0 in
-    let h = membered _ _ _ _ _ c.end_of.ensures c.members-a.ensures in
+    let h = membered _ _ _ _ _ c.end_of-z.ensures c.members-a.ensures in
     let k = call_known _ _ _ _ c.requires.3 c.requires.1 c.end_of-q.ensures h in
     omega (arith, k.low, k.high, k.fits)
 
 pub call-slice_bounds-meaning-end : goal.call-slice_bounds-meaning-end
 call-slice_bounds-meaning-end t c = let y = c.requires.0 in
-    let h = membered _ _ _ _ _ c.end_of.ensures c.members-a.ensures in
+    let h = membered _ _ _ _ _ c.end_of-z.ensures c.members-a.ensures in
     let k = call_known _ _ _ _ c.requires.3 c.requires.1 c.end_of-q.ensures h in
     omega (arith, k.low, k.high, k.fits)
 
@@ -313,51 +326,51 @@ call-overflow_add-p-3 t c = let y = c.requires.0 in omega (arith, y.small, y.wit
 
 pub call-meaning-f-requires : goal.call-meaning-f-requires
 call-meaning-f-requires t c = let y = c.requires.0 in
-    let h = membered _ _ _ _ _ c.end_of.ensures c.members-a.ensures in
+    let h = membered _ _ _ _ _ c.end_of-z.ensures c.members-a.ensures in
     let k = call_known _ _ _ _ c.requires.3 c.requires.1 c.end_of-q.ensures h in
     ((y.view, y.seen), call-short c.args.tree.now (c.end_of-q.result - (c.args.p + 6)) (c.args.p + 6) y.small, omega (arith, y.small, y.within, y.order), omega (arith, k.high, k.fits, y.small))
 
 pub call-call_width-w-requires : goal.call-call_width-w-requires
 call-call_width-w-requires t c = let y = c.requires.0 in
-    let h = membered _ _ _ _ _ c.end_of.ensures c.members-a.ensures in
+    let h = membered _ _ _ _ _ c.end_of-z.ensures c.members-a.ensures in
     let k = call_known _ _ _ _ c.requires.3 c.requires.1 c.end_of-q.ensures h in
     omega (arith, k.high, k.fits, y.small)
 
 pub call-reserve-requires : goal.call-reserve-requires
 call-reserve-requires t c = let y = c.requires.0 in
-    let h = membered _ _ _ _ _ c.end_of.ensures c.members-a.ensures in
+    let h = membered _ _ _ _ _ c.end_of-z.ensures c.members-a.ensures in
     let k = call_known _ _ _ _ c.requires.3 c.requires.1 c.end_of-q.ensures h in
     call-reserve _ _ _ _ _ _ _ _ (numbers c.meaning-f.result) _ k y (due-placed c.args.o c.args.self.now.st c.requires.2) c.call_width-w.ensures
 
 pub call-args-requires : goal.call-args-requires
 call-args-requires t c = let y = c.requires.0 in
-    let h = membered _ _ _ _ _ c.end_of.ensures c.members-a.ensures in
+    let h = membered _ _ _ _ _ c.end_of-z.ensures c.members-a.ensures in
     let k = call_known _ _ _ _ c.requires.3 c.requires.1 c.end_of-q.ensures h in
-    (omega (arith, c.decreases, k.low, k.high, k.fits), call-ready _ _ _ _ _ _ _ _ (numbers c.meaning-f.result) _ _ k y c.call_width-w.ensures (reserve-of c.args.o _ c.args.self.now.st _ (ready-low _ _ _ _ _ _ c.requires.0) c.reserve.ensures))
+    (omega (arith, c.decreases, k.low, k.high, k.fits), call-ready _ _ _ _ _ _ _ _ _ (numbers c.meaning-f.result) _ _ c.end_of-z.ensures k y c.call_width-w.ensures (reserve-of c.args.o _ c.args.self.now.st _ (ready-low _ _ _ _ _ _ c.requires.0) c.reserve.ensures))
 
 pub call-fail-requires : goal.call-fail-requires
 call-fail-requires t c = let y = c.requires.0 in
-    let h = membered _ _ _ _ _ c.end_of.ensures c.members-a.ensures in
+    let h = membered _ _ _ _ _ c.end_of-z.ensures c.members-a.ensures in
     let k = call_known _ _ _ _ c.requires.3 c.requires.1 c.end_of-q.ensures h in
-    call-fail _ _ _ _ _ _ _ _ _ (numbers c.meaning-f.result) _ _ _ _ _ k y c.call_width-w.ensures (reserve-of c.args.o _ c.args.self.now.st _ (ready-low _ _ _ _ _ _ c.requires.0) c.reserve.ensures) c.args-2.ensures.is
+    call-fail _ _ _ _ _ _ _ _ _ (numbers c.meaning-f.result) _ _ _ _ _ k y c.call_width-w.ensures (reserve-of c.args.o _ c.args.self.now.st _ (ready-low _ _ _ _ _ _ c.requires.0) c.reserve.ensures) (c.args-2.ensures.is _ (call-args _ _ _ _ _ c.end_of-z.ensures k))
 
 pub call-place-requires : goal.call-place-requires
 call-place-requires t c = let y = c.requires.0 in
-    let h = membered _ _ _ _ _ c.end_of.ensures c.members-a.ensures in
+    let h = membered _ _ _ _ _ c.end_of-z.ensures c.members-a.ensures in
     let k = call_known _ _ _ _ c.requires.3 c.requires.1 c.end_of-q.ensures h in
-    call-place _ _ _ _ _ _ _ _ _ _ _ _ _ _ _ k y c.call_width-w.ensures (reserve-of c.args.o _ c.args.self.now.st _ (ready-low _ _ _ _ _ _ c.requires.0) c.reserve.ensures) c.args-2.ensures.is _ _ c.fail.ensures
+    call-place _ _ _ _ _ _ _ _ _ _ _ _ _ _ _ k y c.call_width-w.ensures (reserve-of c.args.o _ c.args.self.now.st _ (ready-low _ _ _ _ _ _ c.requires.0) c.reserve.ensures) (c.args-2.ensures.is _ (call-args _ _ _ _ _ c.end_of-z.ensures k)) _ _ c.fail.ensures
 
 pub call-put_call-requires : goal.call-put_call-requires
 call-put_call-requires t c = let y = c.requires.0 in
-    let h = membered _ _ _ _ _ c.end_of.ensures c.members-a.ensures in
+    let h = membered _ _ _ _ _ c.end_of-z.ensures c.members-a.ensures in
     let k = call_known _ _ _ _ c.requires.3 c.requires.1 c.end_of-q.ensures h in
-    call-put _ _ _ _ _ _ _ _ _ _ _ _ _ _ _ k y c.call_width-w.ensures (reserve-of c.args.o _ c.args.self.now.st _ (ready-low _ _ _ _ _ _ c.requires.0) c.reserve.ensures) c.args-2.ensures.is _ _ c.fail.ensures _ _ c.meaning-f.ensures (due-placed c.args.o c.args.self.now.st c.requires.2) _ (place-spot c.args.o _ _ c.args.self.now.st c.requires.2 (ready-low _ _ _ _ _ _ c.requires.0) c.place.ensures.0)
+    call-put _ _ _ _ _ _ _ _ _ _ _ _ _ _ _ k y c.call_width-w.ensures (reserve-of c.args.o _ c.args.self.now.st _ (ready-low _ _ _ _ _ _ c.requires.0) c.reserve.ensures) (c.args-2.ensures.is _ (call-args _ _ _ _ _ c.end_of-z.ensures k)) _ _ c.fail.ensures _ _ c.meaning-f.ensures (due-placed c.args.o c.args.self.now.st c.requires.2) _ (place-spot c.args.o _ _ c.args.self.now.st c.requires.2 (ready-low _ _ _ _ _ _ c.requires.0) c.place.ensures.0)
 
 pub call-returns-clause-is : goal.call-returns-clause-is
 call-returns-clause-is t c = let y = c.requires.0 in
-    let h = membered _ _ _ _ _ c.end_of.ensures c.members-a.ensures in
+    let h = membered _ _ _ _ _ c.end_of-z.ensures c.members-a.ensures in
     let k = call_known _ _ _ _ c.requires.3 c.requires.1 c.end_of-q.ensures h in
-    call-did _ _ _ _ _ _ _ _ _ _ _ _ _ _ _ _ _ _ _ _ _ _ _ c.requires.3 y c.requires.1 c.end_of-q.ensures h (call-name _ _ _ c.end_of-q.ensures) c.meaning-f.ensures c.call_width-w.ensures (reserve-of c.args.o _ c.args.self.now.st _ (ready-low _ _ _ _ _ _ c.requires.0) c.reserve.ensures) c.args-2.ensures.is c.fail.ensures (place-spot c.args.o _ _ c.args.self.now.st c.requires.2 (ready-low _ _ _ _ _ _ c.requires.0) c.place.ensures.0) (place-next c.args.o _ c.args.self.now.st _ _ c.requires.2 (ready-low _ _ _ _ _ _ c.requires.0) c.place.ensures.1) c.put_call.ensures
+    call-did _ _ _ _ _ _ _ _ _ _ _ _ _ _ _ _ _ _ _ _ _ _ _ c.requires.3 y c.requires.1 c.end_of-q.ensures h (call-name _ _ _ c.end_of-q.ensures) c.meaning-f.ensures c.call_width-w.ensures (reserve-of c.args.o _ c.args.self.now.st _ (ready-low _ _ _ _ _ _ c.requires.0) c.reserve.ensures) (c.args-2.ensures.is _ (call-args _ _ _ _ _ c.end_of-z.ensures k)) c.fail.ensures (place-spot c.args.o _ _ c.args.self.now.st c.requires.2 (ready-low _ _ _ _ _ _ c.requires.0) c.place.ensures.0) (place-next c.args.o _ c.args.self.now.st _ _ c.requires.2 (ready-low _ _ _ _ _ _ c.requires.0) c.place.ensures.1) c.put_call.ensures
 
 pub def-bounds-self-1 : goal.def-bounds-self-1
 def-bounds-self-1 t c = omega (arith, (ready-cells _ _ _ _ _ _ c.requires.0).0)
