@@ -23,7 +23,7 @@ impl From<TooDeep> for Refusal {
 }
 
 // The byte at a place; 0 at the end.
-// Kept: the definitions read 0 past the end, a byte that no rule asks for; of an `Option` every caller would make that 0 again.
+// Kept: `byte` of the definitions is 0 past the end, and each clause is stated on it.
 pub fn byte_at(s: &[u8], at: usize) -> u8
     requires { at ≤ length s.now }
     ensures { Byte s.now at result }
