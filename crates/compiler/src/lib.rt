@@ -264,7 +264,7 @@ impl Compiler<'_, '_> {
             let a = self.st.terms;
             self.iterm(tree, p + 3, i, 0);
             note(self.rows, i, RowKind::Kept, a, self.st.terms);
-            t = t | self.iterm(tree, end_of(tree, p + 3), i + 1, allowed);
+            t |= self.iterm(tree, end_of(tree, p + 3), i + 1, allowed);
             p = end_of(tree, p);
             i += 1;
         }
@@ -667,7 +667,6 @@ impl Compiler<'_, '_> {
     {
         if bytes::is_tag(tree, q, z, tag) {
             self.iterm(tree, q + 3, k, 0);
-            return;
         }
     }
 }
@@ -746,10 +745,7 @@ impl Compiler<'_, '_> {
         ensures is { StringIs tree.now q self.old.rows.now self.new.rows.now k self.old.st self.new.st self.old.out.now self.new.out.now }
     {
         let tag = tree[q];
-        if tag == 0xBB {
-            return;
-        }
-        if tag == 0xBC {
+        if tag == 0xBB || tag == 0xBC {
             return;
         }
         self.iterm(tree, q, k, 0);

@@ -46,6 +46,7 @@ use Rattle.compiler.specs.FormsC.Quoted as forms_quoted
 use Prim.Native.Nat.{ℕ, ◌<◌, ◌+◌, ◌-◌}
 use Rattle.compiler.specs.FormsC.Strings as forms_strings
 use Rattle.rows.specs.Opened as opened
+use Rattle.compiler.proofs.Compiler.+compiling.Goals.{string-then-tag-via-then-tag, string-then-tag-via-else-tag+then-tag-2}
 use Rattle.compiler.proofs.Compiler.+compiling.Goals as goal
 
 pub args-loop-p-init : goal.args-loop-p-init
@@ -283,8 +284,8 @@ bound-returns-then-is_tag-clause-is t c =
     let g = c.requires.1 in
     forms_paths.bound-is b _ _ _ _ _ _ _ _ _ _ _ g (sym c.is_tag.ensures ∙ c.if-is_tag.true) c.iterm.ensures.is
 
-pub bound-returns-clause-is : goal.bound-returns-clause-is
-bound-returns-clause-is t c =
+pub bound-returns-else-is_tag-clause-is : goal.bound-returns-else-is_tag-clause-is
+bound-returns-else-is_tag-clause-is t c =
     let b = c.args.tree.now in
     forms_paths.bound-none b _ _ _ _ _ _ _ (sym c.is_tag.ensures ∙ c.if-is_tag.false)
 
@@ -2153,12 +2154,10 @@ string-bounds-tree-q t c =
 pub string-returns-then-tag-clause-is : goal.string-returns-then-tag-clause-is
 string-returns-then-tag-clause-is t c =
     let b = c.args.tree.now in
-    forms_strings.string-text b _ _ _ _ _ (inl c.if-tag.true)
-
-pub string-returns-then-tag-2-clause-is : goal.string-returns-then-tag-2-clause-is
-string-returns-then-tag-2-clause-is t c =
-    let b = c.args.tree.now in
-    forms_strings.string-text b _ _ _ _ _ (inr c.if-tag-2.true)
+    elim c.then-tag.branch [
+      | string-then-tag-via-then-tag w ↦ forms_strings.string-text b _ _ _ _ _ (inl w.if-tag.true)
+      | string-then-tag-via-else-tag+then-tag-2 w ↦ forms_strings.string-text b _ _ _ _ _ (inr w.if-tag-2.true)
+    ]
 
 pub string-iterm-requires : goal.string-iterm-requires
 string-iterm-requires t c =
