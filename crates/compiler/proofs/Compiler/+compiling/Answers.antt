@@ -464,50 +464,25 @@ entries-returns-clause-is t c =
     let v = c.loop-p.invariant.3 in
     forms_objects.entries-done b _ _ _ _ _ _ _ _ _ _ _ v l
 
+pub fold-no_fold-requires : goal.fold-no_fold-requires
+fold-no_fold-requires t c =
+    let y = c.requires.0 in
+    (omega (arith, asks_b.rows-some _ _ _ _ _ _ y), omega (arith, c.fold_of-f.ensures.source), omega (arith, y.errs))
+
 pub fold-fold_of-f-requires : goal.fold-fold_of-f-requires
 fold-fold_of-f-requires t c =
     let y = c.requires.0 in
     (c.requires.1, c.requires.3)
 
-pub fold-insert_error-requires : goal.fold-insert_error-requires
-fold-insert_error-requires t c =
-    let y = c.requires.0 in
-    omega (arith, y.errs)
-
-pub fold-bounds-self-3 : goal.fold-bounds-self-3
-fold-bounds-self-3 t c =
-    let y = c.requires.0 in
-    omega (arith, asks_b.rows-some _ _ _ _ _ _ y)
-
-pub fold-overflow_add-p : goal.fold-overflow_add-p
-fold-overflow_add-p t c =
-    let y = c.requires.0 in
-    omega (arith, y.within, y.small)
-
-pub fold-overflow_sub-f : goal.fold-overflow_sub-f
-fold-overflow_sub-f t c =
-    let y = c.requires.0 in
-    omega (arith, c.fold_of-f.ensures.source)
-
-pub fold-overflow_sub-f-then-f-lt2 : goal.fold-overflow_sub-f-then-f-lt2
-fold-overflow_sub-f-then-f-lt2 t c =
-    let y = c.requires.0 in
-    omega (arith, c.fold_of-f.ensures.source)
-
-pub fold-put_filter_error-requires : goal.fold-put_filter_error-requires
-fold-put_filter_error-requires t c =
-    let y = c.requires.0 in
-    omega (arith, y.errs, c.insert_error.ensures.0)
-
 pub fold-bare-requires : goal.fold-bare-requires
 fold-bare-requires t c =
     let y = c.requires.0 in
-    asks_b.bare-ask _ _ _ _ _ _ _ _ y (due-placed c.args.o c.args.self.now.st c.requires.2) c.insert_error.ensures.1
+    asks_b.bare-ask _ _ _ _ _ _ _ _ y (due-placed c.args.o c.args.self.now.st c.requires.2) c.no_fold.ensures.0
 
 pub fold-returns-then-f-lt2-clause-is : goal.fold-returns-then-f-lt2-clause-is
 fold-returns-then-f-lt2-clause-is t c =
     let y = c.requires.0 in
-    asks_b.fold-lost _ _ _ _ _ _ _ _ _ _ _ _ _ _ _ _ _ _ c.requires.3 y c.requires.1 c.fold_of-f.ensures c.if-f-lt2.true refl refl refl c.insert_error.ensures.0 c.insert_error.ensures.1 c.put_filter_error.ensures (bare-of c.args.o _ _ _ _ c.args.self.now.st _ _ _ _ c.requires.2 (ready-low _ _ _ _ _ _ c.requires.0) (omega (arith, y.offs, asks.error-state c.args.self.now.st _ _ c.insert_error.ensures.1)) c.bare.ensures)
+    asks_b.fold-lost _ _ _ _ _ _ _ _ _ _ _ _ _ _ _ _ _ _ c.requires.3 y c.requires.1 c.fold_of-f.ensures c.if-f-lt2.true refl refl refl refl c.no_fold.ensures.0 c.no_fold.ensures.1 (bare-of c.args.o _ _ _ _ c.args.self.now.st _ _ _ _ c.requires.2 (ready-low _ _ _ _ _ _ c.requires.0) (omega (arith, y.offs, asks.error-state c.args.self.now.st _ _ c.no_fold.ensures.0)) c.bare.ensures)
 
 pub fold-reserve-requires : goal.fold-reserve-requires
 fold-reserve-requires t c =
@@ -1964,47 +1939,17 @@ project-returns-in-Projected-clause-is t c =
     let g = c.requires.1 in
     asks_b.project-ret _ _ _ _ _ _ _ _ _ y g _ (kind-is _ _ _ c.in-Some.is c.in-Projected.is) c.end_of.ensures _ _ _ _ _ _ c.iterm.ensures.is
 
-pub project-insert_error-requires : goal.project-insert_error-requires
-project-insert_error-requires t c =
+pub project-no_fold-requires : goal.project-no_fold-requires
+project-no_fold-requires t c =
     let y = c.requires.0 in
     let g = c.requires.1 in
-    omega (arith, y.errs)
-
-pub project-bounds-self-3 : goal.project-bounds-self-3
-project-bounds-self-3 t c =
-    let y = c.requires.0 in
-    let g = c.requires.1 in
-    omega (arith, asks_b.rows-some _ _ _ _ _ _ y)
-
-pub project-overflow_add-p : goal.project-overflow_add-p
-project-overflow_add-p t c =
-    let y = c.requires.0 in
-    let g = c.requires.1 in
-    omega (arith, g.source, g.name, y.small)
-
-pub project-overflow_sub-f : goal.project-overflow_sub-f
-project-overflow_sub-f t c =
-    let y = c.requires.0 in
-    let g = c.requires.1 in
-    omega (arith, g.source)
-
-pub project-overflow_sub-f-in_default : goal.project-overflow_sub-f-in_default
-project-overflow_sub-f-in_default t c =
-    let y = c.requires.0 in
-    let g = c.requires.1 in
-    omega (arith, g.source)
-
-pub project-put_filter_error-requires : goal.project-put_filter_error-requires
-project-put_filter_error-requires t c =
-    let y = c.requires.0 in
-    let g = c.requires.1 in
-    omega (arith, y.errs, c.insert_error.ensures.0)
+    (omega (arith, asks_b.rows-some _ _ _ _ _ _ y), omega (arith, g.source), omega (arith, y.errs))
 
 pub project-returns-in_default-clause-is : goal.project-returns-in_default-clause-is
 project-returns-in_default-clause-is t c =
     let y = c.requires.0 in
     let g = c.requires.1 in
-    folds.project-fail _ _ _ _ _ _ _ _ _ y g _ _ _ _ _ _ _ _ (no-kind _ c.in_default.is) refl refl refl c.insert_error.ensures.0 c.insert_error.ensures.1 c.put_filter_error.ensures
+    folds.project-fail _ _ _ _ _ _ _ _ _ y g _ _ _ _ _ _ _ _ (no-kind _ c.in_default.is) refl refl refl refl c.no_fold.ensures.0 c.no_fold.ensures.1
 
 pub project-returns-clause-is : goal.project-returns-clause-is
 project-returns-clause-is t c =
