@@ -9,7 +9,8 @@
 
 #![tactic(auto)]
 
-ghost use Rattle.std.specs.Prelude.{◌≡◌, List, [], ◌∷◌, ℕ, ◌+◌, ◌-◌, ◌*◌, ◌≤◌, ◌<◌, ◌^◌, length, get_or};
+ghost use Rattle.std.specs.Prelude.{◌≡◌, List, [], ◌∷◌, ◌++◌, ℕ, ◌+◌, ◌-◌, ◌*◌, ◌≤◌, ◌<◌, ◌^◌, length, get_or};
+ghost use Rattle.fields.specs.Number.{number};
 ghost use Rattle.fields.specs.Field.{field};
 ghost use Rattle.fields.specs.Room.{overlay};
 ghost use Rattle.tree.specs.Rose.{Roses, rnil, rcons, end_of, text_of, Row};
@@ -264,7 +265,7 @@ impl Compiler<'_, '_> {
             let a = self.st.terms;
             self.iterm(tree, p + 3, i, 0);
             note(self.rows, i, RowKind::Kept, a, self.st.terms);
-            t = t | self.iterm(tree, end_of(tree, p + 3), i + 1, allowed);
+            t |= self.iterm(tree, end_of(tree, p + 3), i + 1, allowed);
             p = end_of(tree, p);
             i += 1;
         }
@@ -501,6 +502,16 @@ impl Compiler<'_, '_> {
 
 // ---- folds
 
+// The error of the fold at p, whose name or count is none that the rules know.
+fn no_fold(rows: &[u64], p: usize, f: width::Fold, st: &mut State, out: &mut [u8])
+    requires { (4 ≤ length rows.now) × (p + 6 ≤ f.x) × (ers st.old + 22 < 2 ^ 64) }
+    ensures { (st.new ≡ record st.old { errors = ers st.old + 11 }) × (out.new ≡ overlay out.old (ers st.old) (field 0x2B (number 2 (get_or rows.now 3 0) ++ (number 2 (p + 6) ++ number 2 (f.x - p - 6)) ++ number 2 f.a))) }
+{
+    let home = rows[cells::HOME] as usize;
+    let e = st.insert_error(11);
+    put::put_filter_error(out, e, home, p + 6, f.x - p - 6, f.a);
+}
+
 impl Compiler<'_, '_> {
     // "Fold: source, pattern, init, update, projection; update and projection under the variables."
     #[cycle(compiling)]
@@ -511,15 +522,8 @@ impl Compiler<'_, '_> {
     {
         let f = width::fold_of(tree, p);
         if f.a < 2 {
-            let home = self.rows[cells::HOME] as usize;
-            put::put_filter_error(
-                self.out,
-                self.st.insert_error(11),
-                home,
-                p + 6,
-                f.x - p - 6,
-                f.a,
-            );
+            let rows = &mut *self.rows;
+            no_fold(rows, p, f, &mut self.st, self.out);
             return bare(&mut self.st, self.out, o, 0x50);
         }
         self.st.reserve(o, f.w);
@@ -586,15 +590,8 @@ impl Compiler<'_, '_> {
         ensures is { Projected tree.now p f.u f.a self.old.rows.now self.new.rows.now k self.old.st self.new.st self.old.out.now self.new.out.now allowed result }
     {
         let Some(kind) = f.kind else {
-            let home = self.rows[cells::HOME] as usize;
-            put::put_filter_error(
-                self.out,
-                self.st.insert_error(11),
-                home,
-                p + 6,
-                f.x - p - 6,
-                f.a,
-            );
+            let rows = &mut *self.rows;
+            no_fold(rows, p, f, &mut self.st, self.out);
             return 0;
         };
         if let FoldKind::Projected = kind {
@@ -668,7 +665,6 @@ impl Compiler<'_, '_> {
     {
         if bytes::is_tag(tree, q, z, tag) {
             self.iterm(tree, q + 3, k, 0);
-            return;
         }
     }
 }
@@ -747,10 +743,7 @@ impl Compiler<'_, '_> {
         ensures is { StringIs tree.now q self.old.rows.now self.new.rows.now k self.old.st self.new.st self.old.out.now self.new.out.now }
     {
         let tag = tree[q];
-        if tag == 0xBB {
-            return;
-        }
-        if tag == 0xBC {
+        if tag == 0xBB || tag == 0xBC {
             return;
         }
         self.iterm(tree, q, k, 0);

@@ -46,6 +46,7 @@ use Rattle.compiler.specs.FormsC.Quoted as forms_quoted
 use Prim.Native.Nat.{ℕ, ◌<◌, ◌+◌, ◌-◌}
 use Rattle.compiler.specs.FormsC.Strings as forms_strings
 use Rattle.rows.specs.Opened as opened
+use Rattle.compiler.proofs.Compiler.+compiling.Goals.{string-then-tag-via-then-tag, string-then-tag-via-else-tag+then-tag-2}
 use Rattle.compiler.proofs.Compiler.+compiling.Goals as goal
 
 pub args-loop-p-init : goal.args-loop-p-init
@@ -283,8 +284,8 @@ bound-returns-then-is_tag-clause-is t c =
     let g = c.requires.1 in
     forms_paths.bound-is b _ _ _ _ _ _ _ _ _ _ _ g (sym c.is_tag.ensures ∙ c.if-is_tag.true) c.iterm.ensures.is
 
-pub bound-returns-clause-is : goal.bound-returns-clause-is
-bound-returns-clause-is t c =
+pub bound-returns-else-is_tag-clause-is : goal.bound-returns-else-is_tag-clause-is
+bound-returns-else-is_tag-clause-is t c =
     let b = c.args.tree.now in
     forms_paths.bound-none b _ _ _ _ _ _ _ (sym c.is_tag.ensures ∙ c.if-is_tag.false)
 
@@ -463,50 +464,25 @@ entries-returns-clause-is t c =
     let v = c.loop-p.invariant.3 in
     forms_objects.entries-done b _ _ _ _ _ _ _ _ _ _ _ v l
 
+pub fold-no_fold-requires : goal.fold-no_fold-requires
+fold-no_fold-requires t c =
+    let y = c.requires.0 in
+    (omega (arith, asks_b.rows-some _ _ _ _ _ _ y), omega (arith, c.fold_of-f.ensures.source), omega (arith, y.errs))
+
 pub fold-fold_of-f-requires : goal.fold-fold_of-f-requires
 fold-fold_of-f-requires t c =
     let y = c.requires.0 in
     (c.requires.1, c.requires.3)
 
-pub fold-insert_error-requires : goal.fold-insert_error-requires
-fold-insert_error-requires t c =
-    let y = c.requires.0 in
-    omega (arith, y.errs)
-
-pub fold-bounds-self-3 : goal.fold-bounds-self-3
-fold-bounds-self-3 t c =
-    let y = c.requires.0 in
-    omega (arith, asks_b.rows-some _ _ _ _ _ _ y)
-
-pub fold-overflow_add-p : goal.fold-overflow_add-p
-fold-overflow_add-p t c =
-    let y = c.requires.0 in
-    omega (arith, y.within, y.small)
-
-pub fold-overflow_sub-f : goal.fold-overflow_sub-f
-fold-overflow_sub-f t c =
-    let y = c.requires.0 in
-    omega (arith, c.fold_of-f.ensures.source)
-
-pub fold-overflow_sub-f-then-f-lt2 : goal.fold-overflow_sub-f-then-f-lt2
-fold-overflow_sub-f-then-f-lt2 t c =
-    let y = c.requires.0 in
-    omega (arith, c.fold_of-f.ensures.source)
-
-pub fold-put_filter_error-requires : goal.fold-put_filter_error-requires
-fold-put_filter_error-requires t c =
-    let y = c.requires.0 in
-    omega (arith, y.errs, c.insert_error.ensures.0)
-
 pub fold-bare-requires : goal.fold-bare-requires
 fold-bare-requires t c =
     let y = c.requires.0 in
-    asks_b.bare-ask _ _ _ _ _ _ _ _ y (due-placed c.args.o c.args.self.now.st c.requires.2) c.insert_error.ensures.1
+    asks_b.bare-ask _ _ _ _ _ _ _ _ y (due-placed c.args.o c.args.self.now.st c.requires.2) c.no_fold.ensures.0
 
 pub fold-returns-then-f-lt2-clause-is : goal.fold-returns-then-f-lt2-clause-is
 fold-returns-then-f-lt2-clause-is t c =
     let y = c.requires.0 in
-    asks_b.fold-lost _ _ _ _ _ _ _ _ _ _ _ _ _ _ _ _ _ _ c.requires.3 y c.requires.1 c.fold_of-f.ensures c.if-f-lt2.true refl refl refl c.insert_error.ensures.0 c.insert_error.ensures.1 c.put_filter_error.ensures (bare-of c.args.o _ _ _ _ c.args.self.now.st _ _ _ _ c.requires.2 (ready-low _ _ _ _ _ _ c.requires.0) (omega (arith, y.offs, asks.error-state c.args.self.now.st _ _ c.insert_error.ensures.1)) c.bare.ensures)
+    asks_b.fold-lost _ _ _ _ _ _ _ _ _ _ _ _ _ _ _ _ _ _ c.requires.3 y c.requires.1 c.fold_of-f.ensures c.if-f-lt2.true refl refl refl refl c.no_fold.ensures.0 c.no_fold.ensures.1 (bare-of c.args.o _ _ _ _ c.args.self.now.st _ _ _ _ c.requires.2 (ready-low _ _ _ _ _ _ c.requires.0) (omega (arith, y.offs, asks.error-state c.args.self.now.st _ _ c.no_fold.ensures.0)) c.bare.ensures)
 
 pub fold-reserve-requires : goal.fold-reserve-requires
 fold-reserve-requires t c =
@@ -1963,47 +1939,17 @@ project-returns-in-Projected-clause-is t c =
     let g = c.requires.1 in
     asks_b.project-ret _ _ _ _ _ _ _ _ _ y g _ (kind-is _ _ _ c.in-Some.is c.in-Projected.is) c.end_of.ensures _ _ _ _ _ _ c.iterm.ensures.is
 
-pub project-insert_error-requires : goal.project-insert_error-requires
-project-insert_error-requires t c =
+pub project-no_fold-requires : goal.project-no_fold-requires
+project-no_fold-requires t c =
     let y = c.requires.0 in
     let g = c.requires.1 in
-    omega (arith, y.errs)
-
-pub project-bounds-self-3 : goal.project-bounds-self-3
-project-bounds-self-3 t c =
-    let y = c.requires.0 in
-    let g = c.requires.1 in
-    omega (arith, asks_b.rows-some _ _ _ _ _ _ y)
-
-pub project-overflow_add-p : goal.project-overflow_add-p
-project-overflow_add-p t c =
-    let y = c.requires.0 in
-    let g = c.requires.1 in
-    omega (arith, g.source, g.name, y.small)
-
-pub project-overflow_sub-f : goal.project-overflow_sub-f
-project-overflow_sub-f t c =
-    let y = c.requires.0 in
-    let g = c.requires.1 in
-    omega (arith, g.source)
-
-pub project-overflow_sub-f-in_default : goal.project-overflow_sub-f-in_default
-project-overflow_sub-f-in_default t c =
-    let y = c.requires.0 in
-    let g = c.requires.1 in
-    omega (arith, g.source)
-
-pub project-put_filter_error-requires : goal.project-put_filter_error-requires
-project-put_filter_error-requires t c =
-    let y = c.requires.0 in
-    let g = c.requires.1 in
-    omega (arith, y.errs, c.insert_error.ensures.0)
+    (omega (arith, asks_b.rows-some _ _ _ _ _ _ y), omega (arith, g.source), omega (arith, y.errs))
 
 pub project-returns-in_default-clause-is : goal.project-returns-in_default-clause-is
 project-returns-in_default-clause-is t c =
     let y = c.requires.0 in
     let g = c.requires.1 in
-    folds.project-fail _ _ _ _ _ _ _ _ _ y g _ _ _ _ _ _ _ _ (no-kind _ c.in_default.is) refl refl refl c.insert_error.ensures.0 c.insert_error.ensures.1 c.put_filter_error.ensures
+    folds.project-fail _ _ _ _ _ _ _ _ _ y g _ _ _ _ _ _ _ _ (no-kind _ c.in_default.is) refl refl refl refl c.no_fold.ensures.0 c.no_fold.ensures.1
 
 pub project-returns-clause-is : goal.project-returns-clause-is
 project-returns-clause-is t c =
@@ -2153,12 +2099,10 @@ string-bounds-tree-q t c =
 pub string-returns-then-tag-clause-is : goal.string-returns-then-tag-clause-is
 string-returns-then-tag-clause-is t c =
     let b = c.args.tree.now in
-    forms_strings.string-text b _ _ _ _ _ (inl c.if-tag.true)
-
-pub string-returns-then-tag-2-clause-is : goal.string-returns-then-tag-2-clause-is
-string-returns-then-tag-2-clause-is t c =
-    let b = c.args.tree.now in
-    forms_strings.string-text b _ _ _ _ _ (inr c.if-tag-2.true)
+    elim c.then-tag.branch [
+      | string-then-tag-via-then-tag w ↦ forms_strings.string-text b _ _ _ _ _ (inl w.if-tag.true)
+      | string-then-tag-via-else-tag+then-tag-2 w ↦ forms_strings.string-text b _ _ _ _ _ (inr w.if-tag-2.true)
+    ]
 
 pub string-iterm-requires : goal.string-iterm-requires
 string-iterm-requires t c =
