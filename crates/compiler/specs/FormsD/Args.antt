@@ -66,7 +66,7 @@ pub record Passing (b : List ℕ) (q a : ℕ) (s₀ : List ℕ) (k : ℕ) (st₀
   pub paid : Paid (q + i) p k s₀ s st₀ st
   pub size : length d ≡ length d₀
 
-passing-start : (b : List ℕ) (q a : ℕ) (s : List ℕ) (k : ℕ) (st : State) (d : List ℕ) → (z : ℕ) × Ready b s k q z st × ((ts : Terms) × Row b (f_terms ts rnil) q z × (arity ts ≡ a))
+pub passing-start : (b : List ℕ) (q a : ℕ) (s : List ℕ) (k : ℕ) (st : State) (d : List ℕ) → (z : ℕ) × Ready b s k q z st × ((ts : Terms) × Row b (f_terms ts rnil) q z × (arity ts ≡ a))
     → Passing b q a s k st d q 0 s st d
 passing-start b q a s k st d y =
     let e : k ≡ k + 0 = omega arith in
@@ -92,10 +92,10 @@ module _ (b : List ℕ) (q a : ℕ) (s₀ : List ℕ) (k : ℕ) (st₀ : State) 
       (λ t ts x r e. ((t, x), row-le b (f_terms ts rnil) (end_of b p) o.some.0 r, term_fits b t p x, (ts, r, omega (arith, e, l))))
       o.some.2.0 (omega (arith, o.some.2.2, l)) o.some.2.1
 
-  passing-fits : i < a → end_of b p ≤ length b
+  pub passing-fits : i < a → end_of b p ≤ length b
   passing-fits l = (next l).2
 
-  passing-ready : i < a → Ready b s (k + i) p (end_of b p) st × Stands b p
+  pub passing-ready : i < a → Ready b s (k + i) p (end_of b p) st × Stands b p
   passing-ready l =
       let n = next l in
       (ready-part b s (k + i) p p o.some.0 (end_of b p) st o.some.1 (omega arith) (omega arith) n.1, n.0)
@@ -107,10 +107,10 @@ module _ (b : List ℕ) (q a : ℕ) (s₀ : List ℕ) (k : ℕ) (st₀ : State) 
     few-nums : i < a → num st < 65536
     few-nums l = omega (arith, o.some.1.nums, (next l).1)
 
-    passing-note : i < a → (n : ℕ) → n ≡ num st → (4 * (k + i) + 4 ≤ length s₁) × (n < 65536) × (6 < 8)
+    pub passing-note : i < a → (n : ℕ) → n ≡ num st → (4 * (k + i) + 4 ≤ length s₁) × (n < 65536) × (6 < 8)
     passing-note l n e = (room l, omega (arith, e, few-nums l), omega arith)
 
-    passing-more : i < a → (n : ℕ) → n ≡ num st → (s₂ : List ℕ) → s₂ ≡ noted s₁ (k + i) 6 n 0 → (p' : ℕ) → p' ≡ end_of b p → Passing b q a s₀ k st₀ d₀ p' (i + 1) s₂ st₁ d₁
+    pub passing-more : i < a → (n : ℕ) → n ≡ num st → (s₂ : List ℕ) → s₂ ≡ noted s₁ (k + i) 6 n 0 → (p' : ℕ) → p' ≡ end_of b p → Passing b q a s₀ k st₀ d₀ p' (i + 1) s₂ st₁ d₁
     passing-more l n en s₂ es p' ep =
         subst (λ (x : ℕ). Passing b q a s₀ k st₀ d₀ x (i + 1) s₂ st₁ d₁) (sym ep)
         (record {
@@ -202,7 +202,7 @@ module _ (b : List ℕ) (q a : ℕ) (s₀ : List ℕ) (k : ℕ) (st₀ : State) 
                       (subst (λ (y : ℕ). ArgsIs vw.top (env_of vw b s₀ k) (num st₁) us y s' st₁ st' d₁ d') (sym up) w));
                 }
 
-  passing-done : a ≤ i → Passed b q a s₀ s k st₀ st d₀ d
+  pub passing-done : a ≤ i → Passed b q a s₀ s k st₀ st d₀ d
   passing-done l =
       record {
         is = λ vw g ts z r ea. done vw g ts z ea (o.goes vw g ts z r ea);
