@@ -10,6 +10,7 @@ pub mod Form
 pub mod Wf
 pub mod Nest
 pub mod Count
+pub mod Places
 pub mod Formed
 pub mod Numbers
 pub mod Verdict

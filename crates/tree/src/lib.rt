@@ -5,6 +5,7 @@
 
 mod input;
 mod open;
+pub mod places;
 mod table;
 
 ghost use Rattle.std.specs.Prelude.{◌≡◌, List, [], ℕ, ◌+◌, ◌-◌, ◌/◌, ◌%◌, ◌≤◌, ◌<◌, length, get_or, IfErr};
@@ -25,6 +26,7 @@ ghost use Rattle.tree.specs.Formed.{Formed, Stepped, AtMost, only};
 use fields::Refusal;
 use input::Input;
 use open::Open;
+use places::fields;
 use table::{Item, Leaf, Mode, Shape};
 
 // The tags that a walk over a tree asks for.
@@ -213,13 +215,10 @@ fn below(b: &Input, p: usize, e: usize, d: usize, m: usize) -> bool
     requires { (e ≤ length b.now) × ((vs : List ℕ) × Held b.now d e vs p) }
     ensures { (vs : List ℕ) → Held b.now d e vs p → result ≡ below m vs }
 {
-    let mut q = p;
-    // Kept: `while`, since the step is each field's own length; the iterator that goes so, `fields` of `reads`, asks for a tree that is known to be right.
-    while q < e {
+    for q in fields(b.bytes(), p, e) {
         if b.number(q + d) >= m {
             return false;
         }
-        q = b.end_of(q);
     }
     true
 }
@@ -252,15 +251,11 @@ fn numbered(b: &Input) -> bool
     requires { (t : Tree) × At b.now t }
     ensures { (t : Tree) → At b.now t → result ≡ numbered t }
 {
-    let mut p = modules(b);
-    let mut m = 0;
-    // Kept: `while`, since the step is each field's own length; the iterator that goes so, `fields` of `reads`, asks for a tree that is known to be right.
-    while p < b.len() {
+    let first = modules(b);
+    for (m, p) in fields(b.bytes(), first, b.len()).enumerate() {
         if !uses_ok(b, p, m) {
             return false;
         }
-        p = b.end_of(p);
-        m += 1;
     }
     true
 }
