@@ -113,6 +113,7 @@ pub fn head_of(rows: &[u64], w: u64, len: usize) -> usize
     HEADS + ((((x ^ y) / 137438953472 + (len as u64)) & rows[MASK]) as usize)
 }
 
+// Kept: a reader for each number of a row, of one line: a function for all of them would be called by that line.
 pub fn key_at(rows: &[u64], j: usize) -> u64
     requires { 4 * j + 4 ≤ length rows.now }
     ensures { result ≡ key_at rows.now j }

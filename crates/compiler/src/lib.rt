@@ -9,7 +9,8 @@
 
 #![tactic(auto)]
 
-ghost use Rattle.std.specs.Prelude.{◌≡◌, List, [], ◌∷◌, ℕ, ◌+◌, ◌-◌, ◌*◌, ◌≤◌, ◌<◌, ◌^◌, length, get_or};
+ghost use Rattle.std.specs.Prelude.{◌≡◌, List, [], ◌∷◌, ◌++◌, ℕ, ◌+◌, ◌-◌, ◌*◌, ◌≤◌, ◌<◌, ◌^◌, length, get_or};
+ghost use Rattle.fields.specs.Number.{number};
 ghost use Rattle.fields.specs.Field.{field};
 ghost use Rattle.fields.specs.Room.{overlay};
 ghost use Rattle.tree.specs.Rose.{Roses, rnil, rcons, end_of, text_of, Row};
@@ -42,7 +43,7 @@ use reads::width::FoldKind;
 use reads::{bytes, width};
 
 // What is written as the compiler goes: the rows, how far it is, and the room.
-// Kept: the tree, which is only read, stands beside them: as a field, that a call leaves it as it was would be a clause of each method and a step in each proof behind a call.
+// Kept: the tree, which is only read, stands beside them: as a field, that it stays would be one fact more of `Same`, and each proof behind a call would take a step along it.
 // Kept: `Ready`, `Stands` and `Due` are asked by each method, since they speak of the place where it is called and of the rows in use there, which no field holds.
 #[derive(Drop)]
 pub struct Compiler<'r, 'o> {
@@ -259,12 +260,12 @@ impl Compiler<'_, '_> {
         let mut p = q;
         let mut i = k;
         let mut t = 0;
-        // Kept: another tag ends the pairs, where `fields` goes up to a place that is known, and the place of that tag is given back.
+        // Kept: another tag ends the pairs, and its place is given back.
         while bytes::is_tag(tree, p, z, 0xB8) {
             let a = self.st.terms;
             self.iterm(tree, p + 3, i, 0);
             note(self.rows, i, RowKind::Kept, a, self.st.terms);
-            t = t | self.iterm(tree, end_of(tree, p + 3), i + 1, allowed);
+            t |= self.iterm(tree, end_of(tree, p + 3), i + 1, allowed);
             p = end_of(tree, p);
             i += 1;
         }
@@ -501,6 +502,16 @@ impl Compiler<'_, '_> {
 
 // ---- folds
 
+// The error of the fold at p, whose name or count is none that the rules know.
+fn no_fold(rows: &[u64], p: usize, f: width::Fold, st: &mut State, out: &mut [u8])
+    requires { (4 ≤ length rows.now) × (p + 6 ≤ f.x) × (ers st.old + 22 < 2 ^ 64) }
+    ensures { (st.new ≡ record st.old { errors = ers st.old + 11 }) × (out.new ≡ overlay out.old (ers st.old) (field 0x2B (number 2 (get_or rows.now 3 0) ++ (number 2 (p + 6) ++ number 2 (f.x - p - 6)) ++ number 2 f.a))) }
+{
+    let home = rows[cells::HOME] as usize;
+    let e = st.insert_error(11);
+    put::put_filter_error(out, e, home, p + 6, f.x - p - 6, f.a);
+}
+
 impl Compiler<'_, '_> {
     // "Fold: source, pattern, init, update, projection; update and projection under the variables."
     #[cycle(compiling)]
@@ -511,15 +522,8 @@ impl Compiler<'_, '_> {
     {
         let f = width::fold_of(tree, p);
         if f.a < 2 {
-            let home = self.rows[cells::HOME] as usize;
-            put::put_filter_error(
-                self.out,
-                self.st.insert_error(11),
-                home,
-                p + 6,
-                f.x - p - 6,
-                f.a,
-            );
+            let rows = &mut *self.rows;
+            no_fold(rows, p, f, &mut self.st, self.out);
             return bare(&mut self.st, self.out, o, 0x50);
         }
         self.st.reserve(o, f.w);
@@ -586,15 +590,8 @@ impl Compiler<'_, '_> {
         ensures is { Projected tree.now p f.u f.a self.old.rows.now self.new.rows.now k self.old.st self.new.st self.old.out.now self.new.out.now allowed result }
     {
         let Some(kind) = f.kind else {
-            let home = self.rows[cells::HOME] as usize;
-            put::put_filter_error(
-                self.out,
-                self.st.insert_error(11),
-                home,
-                p + 6,
-                f.x - p - 6,
-                f.a,
-            );
+            let rows = &mut *self.rows;
+            no_fold(rows, p, f, &mut self.st, self.out);
             return 0;
         };
         if let FoldKind::Projected = kind {
@@ -668,7 +665,6 @@ impl Compiler<'_, '_> {
     {
         if bytes::is_tag(tree, q, z, tag) {
             self.iterm(tree, q + 3, k, 0);
-            return;
         }
     }
 }
@@ -747,10 +743,7 @@ impl Compiler<'_, '_> {
         ensures is { StringIs tree.now q self.old.rows.now self.new.rows.now k self.old.st self.new.st self.old.out.now self.new.out.now }
     {
         let tag = tree[q];
-        if tag == 0xBB {
-            return;
-        }
-        if tag == 0xBC {
+        if tag == 0xBB || tag == 0xBC {
             return;
         }
         self.iterm(tree, q, k, 0);
@@ -775,7 +768,7 @@ impl Compiler<'_, '_> {
         0
     }
 
-    // Kept: `parts`, `strings` and `entries` are three loops, since each calls another method, and a closure for it would borrow the compiler whole.
+    // Kept: `parts`, `strings` and `entries` are three loops: a closure for what differs would need its contract written out at each, which is longer than the loop.
     // The entries of an object from q up to z; a note for each has the numbers of key and value. The row after them.
     #[cycle(compiling)]
     fn entries(&mut self, tree: &[u8], q: usize, z: usize, k: usize) -> usize
@@ -861,30 +854,31 @@ impl Compiler<'_, '_> {
         ensures is { Did tree.now p self.old.rows.now self.new.rows.now k (at_of o) self.old.st self.new.st self.old.out.now self.new.out.now allowed result }
     {
         let q = end_of(tree, p + 3);
-        let a = members(tree, q, end_of(tree, p));
+        let z = end_of(tree, p);
+        let a = members(tree, q, z);
         let rows = &mut *self.rows;
         let f = meaning(tree, rows, k, &tree[p + 6..q], p + 6, a);
         let w = finds::call_width(f, a);
         self.st.reserve(o, w);
-        self.args(tree, q, a, k);
+        self.args(tree, q, z, k);
         let rows = &mut *self.rows;
         records::fail(rows, f, a, &mut self.st, self.out);
         records::put_call(tree, rows, f, k, a, self.out, self.st.place(o, w), allowed)
     }
 
-    // The a arguments from q on; a note for each has its number.
+    // The arguments from q up to z; a note for each has its number.
     #[cycle(compiling)]
-    fn args(&mut self, tree: &[u8], q: usize, a: usize, k: usize)
-        requires { (z : ℕ) × Ready tree.now self.old.rows.now k q z self.old.st × ((ts : Terms) × Row tree.now (f_terms ts rnil) q z × (arity ts ≡ a)) }
+    fn args(&mut self, tree: &[u8], q: usize, z: usize, k: usize)
+        requires { Ready tree.now self.old.rows.now k q z self.old.st × ((ts : Terms) × Row tree.now (f_terms ts rnil) q z) }
         ensures same { Same self.old self.new }
-        ensures is { Passed tree.now q a self.old.rows.now self.new.rows.now k self.old.st self.new.st self.old.out.now self.new.out.now }
+        ensures is { (a : ℕ) → ((ts : Terms) × Row tree.now (f_terms ts rnil) q z × (arity ts ≡ a)) → Passed tree.now q a self.old.rows.now self.new.rows.now k self.old.st self.new.st self.old.out.now self.new.out.now }
     {
-        let mut p = q;
-        for i in 0..a {
+        let mut i = k;
+        for p in fields(tree, q, z) {
             let n = self.st.terms;
-            self.iterm(tree, p, k + i, 0);
-            note(self.rows, k + i, RowKind::Kept, n, 0);
-            p = end_of(tree, p);
+            self.iterm(tree, p, i, 0);
+            note(self.rows, i, RowKind::Kept, n, 0);
+            i += 1;
         }
     }
 }

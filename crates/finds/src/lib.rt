@@ -1,7 +1,7 @@
 // What a name means: the row of a binding in view, a module's definition, a native, or nothing.
 //
 // Kept: `as` for numbers in cells, which are u64: there is no `From` between it and usize.
-// Kept: tree and rows are two parameters, since a struct's ghost field has to be a proposition, and `Viewed` is none: it holds a view, which proofs read.
+// Kept: tree and rows are two parameters: a ghost field that says `Viewed` is refused, as it is no proposition, and a struct without it would leave each contract asking as now.
 
 #![tactic(auto)]
 

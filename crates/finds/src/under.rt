@@ -11,7 +11,7 @@ ghost use Rattle.finds.specs.Wide.{WidthAt, WidthUnder, WidthNamed, Stands, Defi
 
 use crate::{call, call_width, find};
 use cells::Class;
-use reads::bytes::{end_of, is_text, members};
+use reads::bytes::{end_of, fields, is_text, members};
 use reads::{bytes, width};
 
 fn named_width(b: &[u8], p: usize, rows: &[u64], class: Class) -> usize
@@ -46,18 +46,18 @@ fn is_def(b: &[u8], p: usize, x: &[u8], a: usize) -> bool
     is_text(b, p + 3, x) && bytes::params(b, end_of(b, p + 3)).a == a
 }
 
-// Whether a definition from q on is such a one.
-fn declares(b: &[u8], q: usize, x: &[u8], a: usize) -> bool
-    requires { (ds : Defs) × (t : Term) × (z : ℕ) × Row b.now (f_defs ds (rcons (f_term t) rnil)) q z × (z ≤ length b.now) }
-    ensures { (ds : Defs) (t : Term) (z : ℕ) → Row b.now (f_defs ds (rcons (f_term t) rnil)) q z → result ≡ declared_by ds x.now a }
+// Whether a definition from q on is such a one; the term that they are for stands behind them, up to z.
+fn declares(b: &[u8], q: usize, z: usize, x: &[u8], a: usize) -> bool
+    requires { (ds : Defs) × (t : Term) × Row b.now (f_defs ds (rcons (f_term t) rnil)) q z × (z ≤ length b.now) }
+    ensures { (ds : Defs) (t : Term) → Row b.now (f_defs ds (rcons (f_term t) rnil)) q z → result ≡ declared_by ds x.now a }
 {
-    let mut p = q;
-    // Kept: the tag of the term behind them ends the definitions, and no end of fields.
-    while b[p] == 0x8C {
+    for p in fields(b, q, z) {
+        if b[p] != 0x8C {
+            return false;
+        }
         if is_def(b, p, x, a) {
             return true;
         }
-        p = end_of(b, p);
     }
     false
 }
@@ -70,7 +70,7 @@ fn defines(b: &[u8], p: usize, x: &[u8], a: usize) -> bool
     let mut q = p;
     // Kept: what ends the walk is the tag at its place, as in `body_of`.
     while b[q] == 0xA9 {
-        if declares(b, q + 3, x, a) {
+        if declares(b, q + 3, end_of(b, q), x, a) {
             return true;
         }
         q = bytes::after_defs(b, q + 3);

@@ -6,6 +6,7 @@ ghost use Rattle.puts.specs.Calls.{call_number};
 ghost use Rattle.rules.specs.Tails.{bit, parent, sibling, local_call, module_kind};
 
 // "The four call kinds keep fixed numbers": the constants. The tables are written by the constructors and `number`.
+// Kept: constants and constructors beside the variants, since document 01 names this form for them.
 #[derive(Clone, Copy, PartialEq, Eq)]
 pub enum CallType {
     Inline,

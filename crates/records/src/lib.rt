@@ -393,6 +393,7 @@ fn put_args(tree: &[u8], rows: &[u64], j: usize, k: usize, a: usize, out: &mut [
     put_number(out, o, a);
     let mut p = end_of(tree, cells::place(rows, j));
     let mut x = o + 2;
+    // Kept: how many parameters they are is known, and not where they end, which `fields` asks for.
     for i in 0..a {
         put1(out, x, u8::from(!bytes::is_var(tree, p)));
         put_number(out, x + 1, number(rows, k + i));

@@ -180,7 +180,7 @@ fn each_header(b: &Input) -> Option<Counts>
     let mut p = 0;
     let mut fields = 1;
     let mut definitions = 0;
-    // Kept: `while`, since the step is a header's or a leaf's own length.
+    // Kept: `while`, since the step is what `content` gives.
     while p < n {
         if !b.fits(p, n) {
             return None;
@@ -300,7 +300,7 @@ fn shallow<const N: usize>(b: &Input, counted: Counted) -> bool
 {
     let mut open = Open::<N>::new();
     let mut p = 0;
-    // Kept: `while`, since the step is a header's or a leaf's own length.
+    // Kept: `while`, since the step goes into a field's members, or past a leaf.
     while p < b.len() {
         open.pass(p);
         if counted.counts(b.byte(p)) {
