@@ -2,9 +2,16 @@
 use mathlib.Core.Path.{subst}
 use native.Mathlib.Omega.{arith}
 use Prim.Native.Nat.{ℕ}
-use Rattle.reads.specs.Places.{turn, turned}
-use Rattle.finds.proofs.Unders.{Declaring, declaring-within, declaring-one, declaring-found, declaring-more, declaring-done}
+use Rattle.reads.specs.Places.{begun, turn, turned}
+use Rattle.finds.proofs.Unders.{Declaring, declaring-start, declaring-within, declaring-one, declaring-found, declaring-more, declaring-done}
 use Rattle.finds.proofs.under.declares.Goals as goal
+
+pub loop-p-init : goal.loop-p-init
+loop-p-init c =
+    let a = c.args in
+    let r = c.requires in
+    let i = begun a.b.now a.q a.z _ c.into_iter-p-iterator.result c.into_iter-p-iterator.ensures.into_iter_gives c.fields-p-items.ensures r.3 (_, r.2) in
+    (i.0, i.1, subst (λ (n : ℕ). Declaring a.b.now a.q a.x.now a.a n) i.2 (declaring-start a.b.now a.q a.x.now a.a))
 
 pub is_def-requires : goal.is_def-requires
 is_def-requires c =
