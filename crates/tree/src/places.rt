@@ -1,5 +1,5 @@
 // The fields that stand one after the other, each where the one before it ends.
-ghost use Rattle.std.specs.Prelude.{◌≡◌, ◌≤◌, length};
+ghost use Rattle.std.specs.Prelude.{◌≡◌, List, ℕ, ◌≤◌, length};
 ghost use Rattle.tree.specs.Rose.{end_of};
 
 use crate::input::two;
