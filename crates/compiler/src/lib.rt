@@ -327,7 +327,7 @@ impl Compiler<'_, '_> {
 }
 
 // "Tail places: right of Pipe and Alt, both sides of Comma": what the left of operator x may return, and the right.
-// Kept: two functions, as the rule has two sides, of two lines each.
+// Kept: two functions, as the rule has two sides, of one test each.
 fn left_set(x: u8, allowed: u64) -> u64
     ensures { result ≡ left_allows (operator_of x) allowed }
 {
@@ -551,6 +551,7 @@ impl Compiler<'_, '_> {
     }
 }
 
+// Kept: `n` is the next number, which is the projection's where there is one: the fold's kind says so.
 #[derive(Clone, Copy)]
 pub struct Updated {
     pub n: usize,
@@ -768,7 +769,7 @@ impl Compiler<'_, '_> {
         0
     }
 
-    // Kept: `parts`, `strings` and `entries` are three loops: a closure for what differs would need its contract written out at each, which is longer than the loop.
+    // Kept: `parts`, `strings` and `entries` are three loops: a closure for what differs would need its contract written out at each, which is longer than the loop. The row after the last is given back, so it is counted.
     // The entries of an object from q up to z; a note for each has the numbers of key and value. The row after them.
     #[cycle(compiling)]
     fn entries(&mut self, tree: &[u8], q: usize, z: usize, k: usize) -> usize

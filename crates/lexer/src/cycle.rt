@@ -1,7 +1,7 @@
 // The cycle: tokens, a token, a block, a string, an escape call one another. Siblings are read by a loop, what is nested by a call.
 //
 // Kept: two rooms are two parameters: a scan puts errors alone, and of a room inside another struct nothing is known once its borrow ends.
-// Kept: `Ready` and `Within` tie the place to both rooms, and a place moves between two puts: as an invariant of a cursor that would be broken in the middle of each function. Likewise `at ≤ length s`.
+// Kept: `Ready` and `Within` tie the place to both rooms, and a place moves between two puts: as an invariant of a cursor that would be broken in the middle of each function. `at ≤ length s` is asked by itself, since the definitions speak of a slice and a place in it.
 ghost use Rattle.std.specs.Prelude.{◌≡◌, ◌+◌, ◌-◌, ◌*◌, ◌≤◌, ◌<◌, length};
 ghost use Rattle.lexer.specs.Scan.{byte, past};
 ghost use Rattle.lexer.specs.Kind.{kind, plain};

@@ -1,7 +1,7 @@
 // Records: each is put as far as there is room. Over an empty room nothing is written.
 //
 // Kept: room and offset are two parameters: a record goes to the place that was reserved for it, and what is put next goes elsewhere.
-// Kept: `put_bare` to `put_filter_error` are `put_numbers` by the count of numbers, one line each, and say in a caller which record that is.
+// Kept: `put_bare`, `put_one`, `put_two`, `put_three`, `put_error` and `put_filter_error` are public, each with its own promise, and one line each over `put_numbers`.
 ghost use Rattle.std.specs.Prelude.{◌≡◌, [], ◌∷◌, ◌++◌, ◌+◌, ◌*◌, ◌/◌, ◌%◌, ◌<◌, ◌^◌, length, set};
 ghost use Rattle.fields.specs.Number.{number};
 ghost use Rattle.fields.specs.Field.{field};
@@ -17,7 +17,7 @@ pub fn put1(out: &mut [u8], o: usize, b: u8)
     }
 }
 
-// Kept: the two bytes of a number by themselves, since a record's bytes are stored one by one, with no array of two between.
+// Kept: the two bytes of a number by themselves: `put_numbers` stores them one by one, and `put_mid` and `put_head` have them among other bytes of one array.
 // The lower byte of a number.
 fn low(a: usize) -> u8
     ensures { result ≡ a % 256 }

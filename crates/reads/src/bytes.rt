@@ -107,6 +107,7 @@ pub fn is_tag(b: &[u8], q: usize, z: usize, tag: u8) -> bool
     q < z && b[q] == tag
 }
 
+// Kept: a place always, as the clause promises: where the field is not there it has not moved.
 // The place after the field of the tag at q, if it stands there.
 pub fn past(b: &[u8], q: usize, z: usize, tag: u8) -> usize
     requires { (z ≤ length b.now) × ((q < z) → (end_of b.now q ≤ length b.now)) }

@@ -96,7 +96,7 @@ pub enum FoldKind {
 }
 
 // A fold: the places of source, pattern, init and update, how many arguments it has, what it is, if it is any of these, and the length of its record.
-// Kept: where there are fewer than two arguments there is no update, and `u` is `i`: `a` says so, and who reads `u` has looked at `a`.
+// Kept: `u` is a place always: `FoldOf` promises `i` for it where there are fewer than two arguments, and a promise may not be less.
 #[derive(Clone, Copy)]
 pub struct Fold {
     pub x: usize,

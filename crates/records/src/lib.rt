@@ -402,7 +402,7 @@ fn put_args(tree: &[u8], rows: &[u64], j: usize, k: usize, a: usize, out: &mut [
     }
 }
 
-// Kept: beside `put_def`: what both do is `put_args`, and what is left differs.
+// Kept: beside `put_def`: what both do is `put_head` and `put_args`, and what is left differs.
 fn put_native(tree: &[u8], rows: &[u64], j: usize, k: usize, a: usize, out: &mut [u8], o: usize)
     requires { ArgsReady tree.now rows.now j k a o 7 }
     ensures { out.new ≡ overlay out.old o (node_bytes 2 (n_native (number_at rows.now j) (args_at tree.now rows.now j k a))) }

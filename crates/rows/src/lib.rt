@@ -86,7 +86,7 @@ fn bind_note(tree: &[u8], rows: &mut [u64], j: usize)
     ensures { rows.new ≡ cond (eqb (last_at rows.old j) 0) rows.old (bound_as (text_of tree.now (last_at rows.old j)) rows.old j 0 (last_at rows.old j) (number_at rows.old j)) }
 {
     let q = last(rows, j) as usize;
-    // Kept: a note keeps its place as one number of fixed memory, and no field stands at 0.
+    // Kept: a note keeps its place as one number of fixed memory, and no pattern stands at 0.
     if q == 0 {
         return;
     }
