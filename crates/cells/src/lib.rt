@@ -8,12 +8,13 @@
 // out, and rows of other names hardly ever. Who brings rows into view takes them out of it again, and puts back the bindings and definitions: of
 // the cells below row k, heads and all, a callee leaves each as it was (`take (4 * k) s' ≡ take (4 * k) s`).
 //
-// Kept: the memory is one slice that a caller lends, and a callee's rows are the part behind `4 * k` of it: so a row is its index, and a cell a number.
-//
 //   number 0: the word of the name
 //   number 1: class + 4 * length of the name + 2^18 * arity + 2^34 * number + 2^50 * level
 //   number 2: next row of the bucket + 2^14 * head + 2^30 * place of the name's field + 2^45 * kind + 2^48 * bindings before it
 //   number 3: a definition's tail set; what a note keeps
+//
+// Kept: the memory is one slice that a caller lends, and a callee's rows are the part behind `4 * k` of it: so a row is its index, and a cell a number. That the row lies in the slice is asked by each reader: a type that says so would be made for one read.
+// Kept: `as` between usize and u64, for which there is no `From`.
 
 #![tactic(auto)]
 
@@ -112,6 +113,7 @@ pub fn head_of(rows: &[u64], w: u64, len: usize) -> usize
     HEADS + ((((x ^ y) / 137438953472 + (len as u64)) & rows[MASK]) as usize)
 }
 
+// Kept: a reader for each number of a row, of one line: a function for all of them would be called by that line.
 pub fn key_at(rows: &[u64], j: usize) -> u64
     requires { 4 * j + 4 ≤ length rows.now }
     ensures { result ≡ key_at rows.now j }

@@ -56,6 +56,7 @@ impl<'a> Row<'a> {
         self.bytes.len() / 2
     }
 
+    // Kept: `2 * i`, and no slice of pairs, since the definitions read the flat row.
     // Is there an operator i, and is it at least min tight?
     fn tight(self, i: usize, min: usize) -> bool
         requires { i ≤ count self.bytes.now }

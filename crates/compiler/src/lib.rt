@@ -4,10 +4,13 @@
 // numbers of members that a record needs are kept in rows too, as notes.
 //
 // Every function of the cycle takes the tree, a place in it, and how many of the rows are used.
+//
+// Kept: `as` for numbers in cells, which are u64: there is no `From` between it and usize.
 
 #![tactic(auto)]
 
-ghost use Rattle.std.specs.Prelude.{◌≡◌, List, [], ◌∷◌, ℕ, ◌+◌, ◌-◌, ◌*◌, ◌≤◌, ◌<◌, ◌^◌, length, get_or};
+ghost use Rattle.std.specs.Prelude.{◌≡◌, List, [], ◌∷◌, ◌++◌, ℕ, ◌+◌, ◌-◌, ◌*◌, ◌≤◌, ◌<◌, ◌^◌, length, get_or};
+ghost use Rattle.fields.specs.Number.{number};
 ghost use Rattle.fields.specs.Field.{field};
 ghost use Rattle.fields.specs.Room.{overlay};
 ghost use Rattle.tree.specs.Rose.{Roses, rnil, rcons, end_of, text_of, Row};
@@ -40,7 +43,8 @@ use reads::width::FoldKind;
 use reads::{bytes, width};
 
 // What is written as the compiler goes: the rows, how far it is, and the room.
-// Kept: the tree, which is only read, stands beside them: as a field, that a call leaves it as it was would be a clause of each method and a step in each proof behind a call.
+// Kept: the tree, which is only read, stands beside them: as a field, that it stays would be one fact more of `Same`, and each proof behind a call would take a step along it.
+// Kept: `Ready`, `Stands` and `Due` are asked by each method, since they speak of the place where it is called and of the rows in use there, which no field holds.
 #[derive(Drop)]
 pub struct Compiler<'r, 'o> {
     pub rows: &'r mut [u64],
@@ -78,6 +82,7 @@ impl Compiler<'_, '_> {
         ensures is { Did tree.now p self.old.rows.now self.new.rows.now k (at_of o) self.old.st self.new.st self.old.out.now self.new.out.now allowed result }
     {
         let tag = tree[p];
+        // Kept: a `match` on the tag, as the forms of terms take different parameters.
         match tag {
             0xA0 => bare(&mut self.st, self.out, o, 0x50),
             0xA1 => bare(&mut self.st, self.out, o, 0x51),
@@ -252,15 +257,15 @@ impl Compiler<'_, '_> {
         ensures same { Same self.old self.new }
         ensures is { Paired tree.now q z self.old.rows.now self.new.rows.now k self.old.st self.new.st self.old.out.now self.new.out.now allowed result }
     {
-        // Kept: the place moves in a loop, which ends at another tag, and the place where it ends is given back.
         let mut p = q;
         let mut i = k;
         let mut t = 0;
+        // Kept: another tag ends the pairs, and its place is given back.
         while bytes::is_tag(tree, p, z, 0xB8) {
             let a = self.st.terms;
             self.iterm(tree, p + 3, i, 0);
             note(self.rows, i, RowKind::Kept, a, self.st.terms);
-            t = t | self.iterm(tree, end_of(tree, p + 3), i + 1, allowed);
+            t |= self.iterm(tree, end_of(tree, p + 3), i + 1, allowed);
             p = end_of(tree, p);
             i += 1;
         }
@@ -322,6 +327,7 @@ impl Compiler<'_, '_> {
 }
 
 // "Tail places: right of Pipe and Alt, both sides of Comma": what the left of operator x may return, and the right.
+// Kept: two functions, as the rule has two sides, of two lines each.
 fn left_set(x: u8, allowed: u64) -> u64
     ensures { result ≡ left_allows (operator_of x) allowed }
 {
@@ -496,6 +502,16 @@ impl Compiler<'_, '_> {
 
 // ---- folds
 
+// The error of the fold at p, whose name or count is none that the rules know.
+fn no_fold(rows: &[u64], p: usize, f: width::Fold, st: &mut State, out: &mut [u8])
+    requires { (4 ≤ length rows.now) × (p + 6 ≤ f.x) × (ers st.old + 22 < 2 ^ 64) }
+    ensures { (st.new ≡ record st.old { errors = ers st.old + 11 }) × (out.new ≡ overlay out.old (ers st.old) (field 0x2B (number 2 (get_or rows.now 3 0) ++ (number 2 (p + 6) ++ number 2 (f.x - p - 6)) ++ number 2 f.a))) }
+{
+    let home = rows[cells::HOME] as usize;
+    let e = st.insert_error(11);
+    put::put_filter_error(out, e, home, p + 6, f.x - p - 6, f.a);
+}
+
 impl Compiler<'_, '_> {
     // "Fold: source, pattern, init, update, projection; update and projection under the variables."
     #[cycle(compiling)]
@@ -506,15 +522,8 @@ impl Compiler<'_, '_> {
     {
         let f = width::fold_of(tree, p);
         if f.a < 2 {
-            let home = self.rows[cells::HOME] as usize;
-            put::put_filter_error(
-                self.out,
-                self.st.insert_error(11),
-                home,
-                p + 6,
-                f.x - p - 6,
-                f.a,
-            );
+            let rows = &mut *self.rows;
+            no_fold(rows, p, f, &mut self.st, self.out);
             return bare(&mut self.st, self.out, o, 0x50);
         }
         self.st.reserve(o, f.w);
@@ -581,15 +590,8 @@ impl Compiler<'_, '_> {
         ensures is { Projected tree.now p f.u f.a self.old.rows.now self.new.rows.now k self.old.st self.new.st self.old.out.now self.new.out.now allowed result }
     {
         let Some(kind) = f.kind else {
-            let home = self.rows[cells::HOME] as usize;
-            put::put_filter_error(
-                self.out,
-                self.st.insert_error(11),
-                home,
-                p + 6,
-                f.x - p - 6,
-                f.a,
-            );
+            let rows = &mut *self.rows;
+            no_fold(rows, p, f, &mut self.st, self.out);
             return 0;
         };
         if let FoldKind::Projected = kind {
@@ -663,7 +665,6 @@ impl Compiler<'_, '_> {
     {
         if bytes::is_tag(tree, q, z, tag) {
             self.iterm(tree, q + 3, k, 0);
-            return;
         }
     }
 }
@@ -742,10 +743,7 @@ impl Compiler<'_, '_> {
         ensures is { StringIs tree.now q self.old.rows.now self.new.rows.now k self.old.st self.new.st self.old.out.now self.new.out.now }
     {
         let tag = tree[q];
-        if tag == 0xBB {
-            return;
-        }
-        if tag == 0xBC {
+        if tag == 0xBB || tag == 0xBC {
             return;
         }
         self.iterm(tree, q, k, 0);
@@ -770,6 +768,7 @@ impl Compiler<'_, '_> {
         0
     }
 
+    // Kept: `parts`, `strings` and `entries` are three loops: a closure for what differs would need its contract written out at each, which is longer than the loop.
     // The entries of an object from q up to z; a note for each has the numbers of key and value. The row after them.
     #[cycle(compiling)]
     fn entries(&mut self, tree: &[u8], q: usize, z: usize, k: usize) -> usize
@@ -855,30 +854,31 @@ impl Compiler<'_, '_> {
         ensures is { Did tree.now p self.old.rows.now self.new.rows.now k (at_of o) self.old.st self.new.st self.old.out.now self.new.out.now allowed result }
     {
         let q = end_of(tree, p + 3);
-        let a = members(tree, q, end_of(tree, p));
+        let z = end_of(tree, p);
+        let a = members(tree, q, z);
         let rows = &mut *self.rows;
         let f = meaning(tree, rows, k, &tree[p + 6..q], p + 6, a);
         let w = finds::call_width(f, a);
         self.st.reserve(o, w);
-        self.args(tree, q, a, k);
+        self.args(tree, q, z, k);
         let rows = &mut *self.rows;
         records::fail(rows, f, a, &mut self.st, self.out);
         records::put_call(tree, rows, f, k, a, self.out, self.st.place(o, w), allowed)
     }
 
-    // The a arguments from q on; a note for each has its number.
+    // The arguments from q up to z; a note for each has its number.
     #[cycle(compiling)]
-    fn args(&mut self, tree: &[u8], q: usize, a: usize, k: usize)
-        requires { (z : ℕ) × Ready tree.now self.old.rows.now k q z self.old.st × ((ts : Terms) × Row tree.now (f_terms ts rnil) q z × (arity ts ≡ a)) }
+    fn args(&mut self, tree: &[u8], q: usize, z: usize, k: usize)
+        requires { Ready tree.now self.old.rows.now k q z self.old.st × ((ts : Terms) × Row tree.now (f_terms ts rnil) q z) }
         ensures same { Same self.old self.new }
-        ensures is { Passed tree.now q a self.old.rows.now self.new.rows.now k self.old.st self.new.st self.old.out.now self.new.out.now }
+        ensures is { (a : ℕ) → ((ts : Terms) × Row tree.now (f_terms ts rnil) q z × (arity ts ≡ a)) → Passed tree.now q a self.old.rows.now self.new.rows.now k self.old.st self.new.st self.old.out.now self.new.out.now }
     {
-        let mut p = q;
-        for i in 0..a {
+        let mut i = k;
+        for p in fields(tree, q, z) {
             let n = self.st.terms;
-            self.iterm(tree, p, k + i, 0);
-            note(self.rows, k + i, RowKind::Kept, n, 0);
-            p = end_of(tree, p);
+            self.iterm(tree, p, i, 0);
+            note(self.rows, i, RowKind::Kept, n, 0);
+            i += 1;
         }
     }
 }
@@ -886,6 +886,7 @@ impl Compiler<'_, '_> {
 // ---- definitions
 
 // Where the own record stands before the definitions, its length is that of the term's that they are for, which may be a call of one of them.
+// Kept: beside `State::reserve`, which takes a length: here it is looked up, and where none is reserved that would be for nothing.
 fn reserve_def(tree: &[u8], p: usize, rows: &[u64], st: &mut State, o: Option<usize>)
     requires { ((k : ℕ) × Ready tree.now rows.now k (p + 1) (end_of tree.now p) st.old) × Stands tree.now p × Due o st.old × (get_or tree.now p 0 ≡ 0xA9) }
     ensures { Reserved tree.now p rows.now (at_of o) st.old st.new }
@@ -922,9 +923,9 @@ impl Compiler<'_, '_> {
         ensures same { Same self.old self.new }
         ensures is { Scoped tree.now q self.old.rows.now self.new.rows.now k self.old.st self.new.st self.old.out.now self.new.out.now allowed result }
     {
-        // Kept: the place moves in a loop, which ends at another tag, and the place where it ends is given back.
         let mut p = q;
         let mut i = k;
+        // Kept: the tag of the term behind them ends the definitions, and its place is given back.
         while tree[p] == 0x8C {
             self.open_def(tree, p, i, allowed);
             p = end_of(tree, p);

@@ -14,10 +14,13 @@ fn pack(answer: Answer) -> u64
     requires { (answer.length < 2 ^ 32) × (answer.place < 2 ^ 24) }
     ensures { result ≡ packed answer }
 {
+    // Kept: `as`, since there is no `From` of a usize for u64.
     let length = answer.length as u64;
     let place = answer.place as u64;
     u64::from(answer.number) + length * 256 + place * 1099511627776
 }
+
+// Kept: two functions of one shape, since C calls each by its name.
 
 #[unsafe(no_mangle)]
 pub extern "C" fn filter_climb(row: &[u8], out: &mut [u8]) -> u64

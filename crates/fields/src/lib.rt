@@ -11,6 +11,7 @@ ghost use Rattle.fields.specs.Room.{overlay};
 ghost use Rattle.fields.specs.Refusals.{number_of, place_of, answer_of};
 
 // What every call gives: document 01's result number, the length written and a place.
+// Kept: the number is what document 01, C and the theorems on `Answers` speak of; from function to function it goes as a `Result`.
 #[derive(Clone, Copy, Debug, PartialEq, Eq)]
 pub struct Answer {
     pub number: u8,

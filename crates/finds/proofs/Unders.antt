@@ -282,11 +282,11 @@ module _ (b : List ℕ) (q : ℕ) (x : Text) (a : ℕ) where
   declaring-start = record { goes = λ ds t z h. (ds, h, refl) }
 
   module _ (p : ℕ) (g : Declaring b q x a p) (some : DefsAt b q) where
-    pub declaring-fits : p < length b
-    declaring-fits =
+    pub declaring-within : p < some.2
+    declaring-within =
         let w = g.goes some.0 some.1 some.2 some.3 in
         let k = defs-place b some.1 w.0 p some.2 w.1 in
-        omega (arith, k.0, k.1, some.4)
+        omega (arith, k.0, k.1)
 
     module _ (e : get_or b p 0 ≡ 0x8C) where
       pub declaring-one : (d : Def) × DefAt b d p
@@ -294,13 +294,6 @@ module _ (b : List ℕ) (q : ℕ) (x : Text) (a : ℕ) where
           let w = g.goes some.0 some.1 some.2 some.3 in
           let n = def-next b p some.2 some.1 w.0 e w.1 in
           (n.one, n.at)
-
-      pub declaring-end : end_of b p ≤ length b
-      declaring-end =
-          let w = g.goes some.0 some.1 some.2 some.3 in
-          let n = def-next b p some.2 some.1 w.0 e w.1 in
-          let k = defs-place b some.1 n.rest (end_of b p) some.2 n.next in
-          omega (arith, k.0, k.1, some.4)
 
       module _ (r : Bool) (f : (d : Def) → DefAt b d p → r ≡ def_fits d x a) where
         pub declaring-found : r ≡ true → (ds : Defs) (t : Term) (z : ℕ) → Row b (f_defs ds (rcons (f_term t) rnil)) q z → true ≡ declared_by ds x a
@@ -343,19 +336,22 @@ module _ (b : List ℕ) (p : ℕ) (x : Text) (a : ℕ) where
     defining-fits = let w = g.goes some.0 some.1 in term_fits b w.0 q w.1
 
     module _ (e : get_or b q 0 ≡ 0xA9) where
-      pub defining-opens : DefsAt b (q + 3)
+      pub defining-opens : (ds : Defs) × (t : Term) × Row b (f_defs ds (rcons (f_term t) rnil)) (q + 3) (end_of b q) × (end_of b q ≤ length b)
       defining-opens =
           let w = g.goes some.0 some.1 in
           let o = opened b q w.0 e w.1 in
-          (o.defs, o.body, end_of b q, o.at.defs, defining-fits)
+          (o.defs, o.body, o.at.defs, defining-fits)
 
-      module _ (r : Bool) (f : (ds : Defs) (t : Term) (z : ℕ) → Row b (f_defs ds (rcons (f_term t) rnil)) (q + 3) z → r ≡ declared_by ds x a) where
+      module _ (s : ℕ) (i : s ≡ end_of b q) (r : Bool) (v : (ds : Defs) (t : Term) → Row b (f_defs ds (rcons (f_term t) rnil)) (q + 3) s → r ≡ declared_by ds x a) where
+        f : (ds : Defs) (t : Term) → Row b (f_defs ds (rcons (f_term t) rnil)) (q + 3) (end_of b q) → r ≡ declared_by ds x a
+        f = subst (λ (z : ℕ). (ds : Defs) (t : Term) → Row b (f_defs ds (rcons (f_term t) rnil)) (q + 3) z → r ≡ declared_by ds x a) i v
+
         pub defining-found : r ≡ true → Defines b p x a true
         unfolding defined_by
         defining-found u t h =
             let w = g.goes t h in
             let o = opened b q w.0 e w.1 in
-            or-true (declared_by o.defs x a) (defined_by o.body x a) (sym (f o.defs o.body (end_of b q) o.at.defs) ∙ u) ∙ (ap (λ (v : Term). defined_by v x a) (sym o.is) ∙ sym w.2)
+            or-true (declared_by o.defs x a) (defined_by o.body x a) (sym (f o.defs o.body o.at.defs) ∙ u) ∙ (ap (λ (v : Term). defined_by v x a) (sym o.is) ∙ sym w.2)
 
         module _ (n : ℕ) (k : (ds : Defs) (t : Term) (z : ℕ) → Row b (f_defs ds (rcons (f_term t) rnil)) (q + 3) z → TermAt b t n) where
           pub defining-less : length b - n < length b - q
@@ -373,7 +369,7 @@ module _ (b : List ℕ) (p : ℕ) (x : Text) (a : ℕ) where
                     let o = opened b q w.0 e w.1 in (
                       o.body,
                       k o.defs o.body (end_of b q) o.at.defs,
-                      w.2 ∙ (ap (λ (v : Term). defined_by v x a) o.is ∙ or-rest (declared_by o.defs x a) (defined_by o.body x a) (sym (f o.defs o.body (end_of b q) o.at.defs) ∙ u)),
+                      w.2 ∙ (ap (λ (v : Term). defined_by v x a) o.is ∙ or-rest (declared_by o.defs x a) (defined_by o.body x a) (sym (f o.defs o.body o.at.defs) ∙ u)),
                     );
               }
 

@@ -1,6 +1,7 @@
 // What a name means: the row of a binding in view, a module's definition, a native, or nothing.
 //
-// Kept: tree and rows are two parameters, since a struct's ghost field has to be a proposition, and `Viewed` is none: it holds a view, which proofs read.
+// Kept: `as` for numbers in cells, which are u64: there is no `From` between it and usize.
+// Kept: tree and rows are two parameters: a ghost field that says `Viewed` is refused, as it is no proposition, and a struct without it would leave each contract asking as now.
 
 #![tactic(auto)]
 
@@ -42,8 +43,8 @@ fn seek(tree: &[u8], rows: &[u64], j: usize, x: &Sought) -> Option<usize>
     requires { Along tree.now rows.now j }
     ensures { Gives (Seeks tree.now rows.now j x.now.name.now x.now.word x.now.key) result }
 {
-    // Kept: a link is part of one number of fixed memory, and row 0 is none.
     let mut i = j;
+    // Kept: a link is part of one number of fixed memory, and row 0 is none.
     while i != 0 {
         if is_row(tree, rows, i, x) {
             return Some(i);

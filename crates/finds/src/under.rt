@@ -11,7 +11,7 @@ ghost use Rattle.finds.specs.Wide.{WidthAt, WidthUnder, WidthNamed, Stands, Defi
 
 use crate::{call, call_width, find};
 use cells::Class;
-use reads::bytes::{end_of, is_text, members};
+use reads::bytes::{end_of, fields, is_text, members};
 use reads::{bytes, width};
 
 fn named_width(b: &[u8], p: usize, rows: &[u64], class: Class) -> usize
@@ -30,8 +30,8 @@ fn body_of(b: &[u8], p: usize) -> usize
     requires { (t : Term) × TermAt b.now t p }
     ensures { ((t : Term) → TermAt b.now t p → TermAt b.now (body_of t) result) × (p ≤ result) × (end_of b.now result ≤ end_of b.now p) }
 {
-    // Kept: what ends the walk is the tag at its place, and no count or end of fields.
     let mut q = p;
+    // Kept: what ends the walk is the tag at its place, and no count or end of fields.
     while b[q] == 0xA9 {
         q = bytes::after_defs(b, q + 3);
     }
@@ -46,18 +46,18 @@ fn is_def(b: &[u8], p: usize, x: &[u8], a: usize) -> bool
     is_text(b, p + 3, x) && bytes::params(b, end_of(b, p + 3)).a == a
 }
 
-// Whether a definition from q on is such a one.
-fn declares(b: &[u8], q: usize, x: &[u8], a: usize) -> bool
-    requires { (ds : Defs) × (t : Term) × (z : ℕ) × Row b.now (f_defs ds (rcons (f_term t) rnil)) q z × (z ≤ length b.now) }
-    ensures { (ds : Defs) (t : Term) (z : ℕ) → Row b.now (f_defs ds (rcons (f_term t) rnil)) q z → result ≡ declared_by ds x.now a }
+// Whether a definition from q on is such a one; the term that they are for stands behind them, up to z.
+fn declares(b: &[u8], q: usize, z: usize, x: &[u8], a: usize) -> bool
+    requires { (ds : Defs) × (t : Term) × Row b.now (f_defs ds (rcons (f_term t) rnil)) q z × (z ≤ length b.now) }
+    ensures { (ds : Defs) (t : Term) → Row b.now (f_defs ds (rcons (f_term t) rnil)) q z → result ≡ declared_by ds x.now a }
 {
-    // Kept: the tag of the term behind them ends the definitions, and no end of fields.
-    let mut p = q;
-    while b[p] == 0x8C {
+    for p in fields(b, q, z) {
+        if b[p] != 0x8C {
+            return false;
+        }
         if is_def(b, p, x, a) {
             return true;
         }
-        p = end_of(b, p);
     }
     false
 }
@@ -67,10 +67,10 @@ fn defines(b: &[u8], p: usize, x: &[u8], a: usize) -> bool
     requires { (t : Term) × TermAt b.now t p }
     ensures { Defines b.now p x.now a result }
 {
-    // Kept: as in body_of, the tag at its place ends the walk.
     let mut q = p;
+    // Kept: what ends the walk is the tag at its place, as in `body_of`.
     while b[q] == 0xA9 {
-        if declares(b, q + 3, x, a) {
+        if declares(b, q + 3, end_of(b, q), x, a) {
             return true;
         }
         q = bytes::after_defs(b, q + 3);
@@ -109,6 +109,7 @@ fn own_width(b: &[u8], p: usize, q: usize, rows: &[u64]) -> usize
     ensures { (WidthUnder b.now rows.now p q result) × (result + 2 * q ≤ 2 * end_of b.now q + 8) }
 {
     let tag = b[q];
+    // Kept: a `match` on the tag, as the forms of terms take different parameters.
     match tag {
         0xA0 | 0xA1 => 3,
         0xA2 | 0xA3 | 0xA4 => 5,

@@ -1,14 +1,14 @@
 -- White space, a character at a time. Assumes nothing.
 use mathlib.Core.Path.{◌≡◌, refl, sym, ◌∙◌}
-use mathlib.Core.Bool.{Bool, true, false, cond, not, beq}
+use mathlib.Core.Bool.{Bool, true, false, cond, not}
 use mathlib.Core.List.{List, []}
-use Prim.Native.Nat.{ℕ, ◌+◌, ◌≤◌, ◌<◌}
+use Prim.Native.Nat.{ℕ, zero, suc, ◌+◌, ◌≤◌, ◌<◌}
 use native.Mathlib.Omega.{arith}
 use lib.ListN.{length, drop, drop_of_length-le, get_or-eq_default}
 use Rattle.std.proofs.Common.{Some, None}
 use lib.Dec.{ltb, eqb}
 use borrow.Author.Tests.{ltb-true, ltb-false, eqb-false}
-use Rattle.text.specs.Utf8.{seq_len, scalar, char_at, found, bits}
+use Rattle.text.specs.Utf8.{if_any, seq_len, scalar, char_at, found, bits}
 use Rattle.text.specs.Space.{white_space, spaces}
 use Rattle.text.proofs.Chars.{is-char, char-is, char-none, char-ascii}
 use Rattle.text.specs.declared.Char.{Char}
@@ -69,6 +69,13 @@ module _ (s : List ℕ) (at : ℕ) (r : Char) (e : Some r ≡ found (char_at s a
   pub wide-space : white_space r.code ≡ true → at ≤ length s → (r.len ≡ blank s at) × (at + r.len ≤ length s)
   unfolding blank
   wide-space w h = let c = is-char s at r (char-is s at r e) in (rw (← c.code, w) c.len, omega (arith, c.fits))
+
+  pub wide-some : 0 < r.len
+  wide-some = let c = is-char s at r (char-is s at r e) in omega (arith, c.len, some (seq_len (drop at s)) (char_at s at) e)
+    where
+      some : {A : Type 0} {b : A} (n : ℕ) (a : A) → Some b ≡ if_any n a → 0 < n
+      some zero a k = absurd (cc)
+      some (suc n) a k = omega arith
 
   pub no-wide : white_space r.code ≡ false → at ≤ length s → (0 ≡ blank s at) × (at + 0 ≤ length s)
   unfolding blank

@@ -17,12 +17,12 @@ use Rattle.lexer.specs.Escape.{simple}
 use Rattle.lexer.specs.Read.{Read, and_then}
 use Rattle.lexer.specs.Lex.{leaf_at, close, text, quote, tokens, token, block, str, parts, escape}
 use Rattle.lexer.specs.Listing.{errors_bytes}
-use Rattle.lexer.specs.Meets.{Byte, Reaches, Is, Ready, Paid, Reads, Lexes, Texts, Quotes, Encloses}
+use Rattle.lexer.specs.Meets.{Byte, Reaches, Is, Ready, Paid, Reads, Lexes, Texts, Quotes, Leaves, Encloses}
 use Rattle.lexer.specs.declared.put.Room.{Room}
 use Rattle.lexer.specs.declared.scan.TooDeep.{TooDeep}
 use Rattle.lexer.proofs.Puts.{put-none}
 use Rattle.lexer.proofs.Scans.{hit, miss}
-use Rattle.lexer.proofs.Readings.{left, is-nothing, is-after, is-then, is_stop, is-enclose, is-enclose-stop}
+use Rattle.lexer.proofs.Readings.{is-nothing, is-after, is-then, is_stop, is-enclose, is-enclose-stop}
 
 -- a number that is above another is no zero
 pub fuelled : (P : ℕ → Type 0) (m : ℕ) → ((j : ℕ) → m ≤ j → P (suc j)) → (k : ℕ) → m < k → P k
@@ -132,38 +132,38 @@ module _ (s : List ℕ) (n at : ℕ) (t e : Room) where
     err = refl;
   }
 
-  module _ (l : at < length s) (z : n ≡ 0 → ⊥) (t₁ e₁ : Room) where
-    pub block-stop : (x : TooDeep) → Lexes (λ k. tokens k s (n - 1) (at + 1)) (3 * (length s - (at + 1)) + 3) s 0 0 (at + 1) (left t) t₁ e e₁ (Err x)
+  module _ (l : at < length s) (z : n ≡ 0 → ⊥) (o : ℕ) (u : Room) (v : Leaves t o u) (t₁ e₁ : Room) where
+    pub block-stop : (x : TooDeep) → Lexes (λ k. tokens k s (n - 1) (at + 1)) (3 * (length s - (at + 1)) + 3) s 0 0 (at + 1) u t₁ e e₁ (Err x)
         → Lexes (λ k. block k s n at) (3 * (length s - at) + 1) s 1 0 at t t₁ e e₁ (Err x)
     unfolding block
     block-stop x w = record {
       is = fuelled (λ k. Is (block k s n at) t t₁ e e₁ (Err x)) (3 * (length s - at) + 1)
           (λ j m. rw (ne_eqb n 0 z)
-          (is-enclose-stop 0x07 at (and_then (tokens j s (n - 1) (at + 1)) (λ b. close (byte s at) s (space s b))) t (left t) t₁ e e₁ x
-          (is_stop (tokens j s (n - 1) (at + 1)) (λ b. close (byte s at) s (space s b)) (left t) t₁ e e₁ x (w.is j (omega arith)))));
+          (is-enclose-stop 0x07 at (and_then (tokens j s (n - 1) (at + 1)) (λ b. close (byte s at) s (space s b))) t u t₁ e e₁ x
+          (is_stop (tokens j s (n - 1) (at + 1)) (λ b. close (byte s at) s (space s b)) u t₁ e e₁ x (w.is j (omega arith)))));
       paid = tt;
-      out = w.out;
+      out = w.out ∙ v.same;
       err = w.err;
     }
 
-    pub block-done : (p i b r : ℕ) (t₂ t₃ e₂ : Room) → Lexes (λ k. tokens k s (n - 1) (at + 1)) (3 * (length s - (at + 1)) + 3) s 0 0 (at + 1) (left t) t₁ e e₁ (Ok p)
-        → Reaches (space s p) s p i → Byte s at b → Reads (close b s i) s 0 10 i t₁ t₂ e₁ e₂ r → Encloses 0x07 t.next at (r - at) t₂ t₃
+    pub block-done : (p i b r : ℕ) (t₂ t₃ e₂ : Room) → Lexes (λ k. tokens k s (n - 1) (at + 1)) (3 * (length s - (at + 1)) + 3) s 0 0 (at + 1) u t₁ e e₁ (Ok p)
+        → Reaches (space s p) s p i → Byte s at b → Reads (close b s i) s 0 10 i t₁ t₂ e₁ e₂ r → Encloses 0x07 o at (r - at) t₂ t₃
         → Lexes (λ k. block k s n at) (3 * (length s - at) + 1) s 1 0 at t t₃ e e₂ (Ok r)
     unfolding block
     block-done p i b r t₂ t₃ e₂ w h g c x = record {
       is = fuelled (λ k. Is (block k s n at) t t₃ e e₂ (Ok r)) (3 * (length s - at) + 1)
           (λ j m. rw (ne_eqb n 0 z)
-          (is-enclose 0x07 at (and_then (tokens j s (n - 1) (at + 1)) (λ b. close (byte s at) s (space s b))) t t₂ t₃ e e₂ r
-          (is-then (tokens j s (n - 1) (at + 1)) (λ b. close (byte s at) s (space s b)) (left t) t₁ t₂ e e₁ e₂ p (Ok r) (w.is j (omega arith))
+          (is-enclose 0x07 at (and_then (tokens j s (n - 1) (at + 1)) (λ b. close (byte s at) s (space s b))) t u t₂ t₃ e e₂ o r v
+          (is-then (tokens j s (n - 1) (at + 1)) (λ b. close (byte s at) s (space s b)) u t₁ t₂ e e₁ e₂ p (Ok r) (w.is j (omega arith))
           (rw (← h.is, ← g.is) c.is))
           x));
       paid = record {
         low = omega (arith, w.paid.low, h.low, c.paid.low);
         high = c.paid.high;
-        tokens = omega (arith, w.paid.tokens, h.low, c.paid.tokens, x.next);
+        tokens = omega (arith, v.next, w.paid.tokens, h.low, c.paid.tokens, x.next);
         errors = omega (arith, w.paid.errors, h.low, c.paid.errors);
       };
-      out = x.same ∙ c.out ∙ w.out;
+      out = x.same ∙ c.out ∙ w.out ∙ v.same;
       err = c.err ∙ w.err;
     }
 
@@ -179,7 +179,7 @@ module _ (s : List ℕ) (n at : ℕ) (t e : Room) where
   }
 
   -- in a turn of the loop: a text part to q, where a byte b stands
-  module _ (l : at < length s) (z : n ≡ 0 → ⊥) (p : ℕ) (t₁ e₁ : Room) (g : Going (λ k i. parts k s (n - 1) i) 1 s (at + 1) p (left t) t₁ e e₁)
+  module _ (l : at < length s) (z : n ≡ 0 → ⊥) (o : ℕ) (u : Room) (y : Leaves t o u) (p : ℕ) (t₁ e₁ : Room) (g : Going (λ k i. parts k s (n - 1) i) 1 s (at + 1) p u t₁ e e₁)
       (q : ℕ) (t₂ : Room) (w : Texts s p t₁ t₂ q) (b : ℕ) (i : Byte s q b) where
     -- the text part, and then u
     part : (u : ℕ → Read) (t' e' : Room) (r : Result ℕ TooDeep) → ((j : ℕ) → 3 * (length s - p) + 1 ≤ j → Is (u j) t₂ t' e₁ e' r)
@@ -195,7 +195,7 @@ module _ (s : List ℕ) (n at : ℕ) (t e : Room) where
       turn u t' e' f = part (λ j. and_then (escape j s (n - 1) (q + 1)) (λ c. parts j s (n - 1) c)) t' e' u f (λ j. rw (hit s q b 0x5C i h))
 
       pub str-more : (r : ℕ) → Lexes (λ k. escape k s (n - 1) (q + 1)) (3 * (length s - (q + 1)) + 2) s 0 10 (q + 1) t₂ t₃ e₁ e₃ (Ok r)
-          → Going (λ k i. parts k s (n - 1) i) 1 s (at + 1) r (left t) t₃ e e₃
+          → Going (λ k i. parts k s (n - 1) i) 1 s (at + 1) r u t₃ e e₃
       str-more r v = record {
         goes = λ u t' e' f. g.goes u t' e' (turn u t' e'
             (λ j c. is-then (escape j s (n - 1) (q + 1)) (λ c. parts j s (n - 1) c) t₂ t₃ t' e₁ e₃ e' r u (v.is j (omega (arith, w.low, w.high)))
@@ -221,30 +221,30 @@ module _ (s : List ℕ) (n at : ℕ) (t e : Room) where
       str-stop x v = record {
         is = fuelled (λ k. Is (str k s n at) t t₃ e e₃ (Err x)) (3 * (length s - at) + 1)
             (λ j m. rw (ne_eqb n 0 z)
-            (is-enclose-stop 0x06 at (parts j s (n - 1) (at + 1)) t (left t) t₃ e e₃ x
+            (is-enclose-stop 0x06 at (parts j s (n - 1) (at + 1)) t u t₃ e e₃ x
             (g.goes (Err x) t₃ e₃ (turn (Err x) t₃ e₃
             (λ k c. is_stop (escape k s (n - 1) (q + 1)) (λ c. parts k s (n - 1) c) t₂ t₃ e₁ e₃ x (v.is k (omega (arith, w.low, i.within, h)))))
             j (omega arith))));
         paid = tt;
-        out = v.out ∙ w.put.same ∙ g.out;
+        out = v.out ∙ w.put.same ∙ g.out ∙ y.same;
         err = v.err ∙ g.err;
       }
 
-    pub str-done : (b ≡ 0x5C → ⊥) → (r : ℕ) (e₃ t₃ : Room) → Quotes s q e₁ e₃ r → Encloses 0x06 t.next at (r - at) t₂ t₃ → Lexes (λ k. str k s n at) (3 * (length s - at) + 1) s 1 0 at t t₃ e e₃ (Ok r)
+    pub str-done : (b ≡ 0x5C → ⊥) → (r : ℕ) (e₃ t₃ : Room) → Quotes s q e₁ e₃ r → Encloses 0x06 o at (r - at) t₂ t₃ → Lexes (λ k. str k s n at) (3 * (length s - at) + 1) s 1 0 at t t₃ e e₃ (Ok r)
     unfolding str
     str-done h r e₃ t₃ v x = record {
       is = fuelled (λ k. Is (str k s n at) t t₃ e e₃ (Ok r)) (3 * (length s - at) + 1)
           (λ j m. rw (ne_eqb n 0 z)
-          (is-enclose 0x06 at (parts j s (n - 1) (at + 1)) t t₂ t₃ e e₃ r
+          (is-enclose 0x06 at (parts j s (n - 1) (at + 1)) t u t₂ t₃ e e₃ o r y
           (g.goes (Ok r) t₂ e₃ (part (λ k. quote s q) t₂ e₃ (Ok r) (λ k c. v.is t₂) (λ k. rw (miss s q b 0x5C i h))) j (omega arith))
           x));
       paid = record {
         low = omega (arith, g.paid.low, w.low, v.low);
         high = v.high;
-        tokens = omega (arith, g.paid.tokens, w.tokens, v.low, x.next);
+        tokens = omega (arith, y.next, g.paid.tokens, w.tokens, v.low, x.next);
         errors = omega (arith, g.paid.errors, w.low, v.errors);
       };
-      out = x.same ∙ w.put.same ∙ g.out;
+      out = x.same ∙ w.put.same ∙ g.out ∙ y.same;
       err = v.err ∙ g.err;
     }
 

@@ -11,7 +11,7 @@ use Rattle.fields.specs.Room.{overlay, overlay-append, overlay-before}
 use Rattle.lexer.specs.Token.{Token, Tokens, one, Expect, Error}
 use Rattle.lexer.specs.Read.{Read, read, deep, nothing, found, wrong, after, and_then, enclose}
 use Rattle.lexer.specs.Listing.{pair, tokens_bytes, errors_bytes}
-use Rattle.lexer.specs.Meets.{Put, Erred, Is, Encloses}
+use Rattle.lexer.specs.Meets.{Put, Erred, Is, Leaves, Encloses}
 use Rattle.lexer.specs.declared.put.Room.{Room}
 use Rattle.lexer.specs.declared.scan.TooDeep.{TooDeep}
 use Rattle.lexer.proofs.Puts.{put-none, put_then}
@@ -73,32 +73,28 @@ length-end : length (field 0x09 []) ≡ 3
 unfolding field number
 length-end = refl
 
--- a room in which seven bytes are left for a record
-abbrev pub left : Room → Room
-left t = record { bytes = t.bytes; next = t.next + 7 }
-
 -- a group: its members were put seven bytes on, then its end behind them and its record before them
-pub is-enclose : (tag start : ℕ) (q : Read) (t t₁ t₂ e e₁ : Room) (r : ℕ) → Is q (left t) t₁ e e₁ (Ok r) → Encloses tag t.next start (r - start) t₁ t₂
+pub is-enclose : (tag start : ℕ) (q : Read) (t u t₁ t₂ e e₁ : Room) (o r : ℕ) → Leaves t o u → Is q u t₁ e e₁ (Ok r) → Encloses tag o start (r - start) t₁ t₂
     → Is (enclose tag start q) t t₂ e e₁ (Ok r)
 unfolding enclose tokens_bytes
-is-enclose tag start (deep z) t t₁ t₂ e e₁ r i g = absurd i.says
-is-enclose tag start (read at ts es) t t₁ t₂ e e₁ r i g =
+is-enclose tag start (deep z) t u t₁ t₂ e e₁ o r v i g = absurd i.says
+is-enclose tag start (read at ts es) t u t₁ t₂ e e₁ o r v i g =
     let f = i.says in
-    let o = t.next in
+    let n : u.next ≡ o + 7 = omega (arith, v.next, v.at) in
     let d = t.bytes.now in
     let m = tokens_bytes 2 ts in
     let c = pair 2 tag start (at - start) in
     let k : pair 2 tag start (r - start) ≡ c = ap (λ (n : ℕ). pair 2 tag start (n - start)) f.is in
     let l : o + 7 ≡ o + length c = ap (λ (n : ℕ). o + n) (sym (length-pair tag start (at - start))) in
-    let a : overlay t₁.bytes.now t₁.next (field 0x09 []) ≡ overlay d (o + 7) (m ++ field 0x09 []) = rw (f.tokens.next, f.tokens.room) (overlay-append d (o + 7) m (field 0x09 [])) in
+    let a : overlay t₁.bytes.now t₁.next (field 0x09 []) ≡ overlay d (o + 7) (m ++ field 0x09 []) = rw (f.tokens.next, f.tokens.room, n, v.room) (overlay-append d (o + 7) m (field 0x09 [])) in
     let b : t₂.bytes.now ≡ overlay d o (c ++ (m ++ field 0x09 [])) = g.room ∙ rw (k, a, l) (overlay-before d o c (m ++ field 0x09 [])) in
     record {
       says = record {
         is = f.is;
         tokens = rw append-nil (record {
-          same = g.same ∙ f.tokens.same;
-          next = omega (arith, g.next, f.tokens.next, length-append c (m ++ field 0x09 []), length-append m (field 0x09 []), length-pair tag start (at - start), length-end);
-          room = b;
+          same = g.same ∙ f.tokens.same ∙ v.same;
+          next = omega (arith, g.next, f.tokens.next, v.next, length-append c (m ++ field 0x09 []), length-append m (field 0x09 []), length-pair tag start (at - start), length-end);
+          room = rw (← v.at) b;
         });
         errors = f.errors;
       };

@@ -1,5 +1,5 @@
 -- The loops of `space::space`: blanks and comments, and in a comment its lines. Assumes nothing.
-use mathlib.Core.Path.{◌≡◌, refl, sym, ◌∙◌}
+use mathlib.Core.Path.{◌≡◌, refl, sym, ap, ◌∙◌}
 use mathlib.Core.Bool.{Bool, true, false}
 use mathlib.Core.List.{List}
 use Prim.Native.Nat.{ℕ, zero, suc, ◌+◌, ◌-◌, ◌≤◌, ◌<◌, min}
@@ -17,10 +17,11 @@ use Rattle.lexer.proofs.Skips.{on_some, comment-on, comment-off, space-blank, sp
 abbrev pub is_space : ℕ → Bool
 is_space b = eqb b 0x20
 
--- a line of a comment that starts at from
-pub record Commenting (s : List ℕ) (from at : ℕ) : Type 0 where
-  pub is : comment (suc (length s)) s at ≡ comment (suc (length s)) s from
+-- what is space from here on is space from the start on, in a comment whose first line starts at first, at the start of one of its lines
+pub record Commenting (s : List ℕ) (from first at : ℕ) : Type 0 where
+  pub is : space s (comment (suc (length s)) s at) ≡ space s from
   pub low : from ≤ at
+  pub moved : first ≤ at
   pub high : at ≤ length s
 
 module _ (s : List ℕ) (from : ℕ) where
@@ -61,33 +62,29 @@ module _ (s : List ℕ) (from : ℕ) where
       let n = bare-not s at b i e in
       record { is = sym (space-stop s at n.0 n.1) ∙ g.is; low = g.low; high = g.high }
 
-  pub one-blank : (at n : ℕ) → Spacing s from at → (n ≡ blank s at) × (at + n ≤ length s) → 0 < n → Spacing s from (at + n)
-  one-blank at n g b h = record {
-    is = rw b.0 (sym (space-blank s at g.high (omega (arith, b.0))) ∙ g.is);
+  pub one-blank : (at n : ℕ) → Spacing s from at → (n ≡ blank s at) × (0 < n) × (at + n ≤ length s) → Spacing s from (at + n)
+  one-blank at n g b = record {
+    is = rw b.0 (sym (space-blank s at g.high (omega (arith, b.0, b.1))) ∙ g.is);
     low = omega (arith, g.low);
-    high = b.1;
+    high = b.2;
   }
 
-  -- a comment, behind its `#`
-  pub one-comment : (at n b r : ℕ) → Spacing s from at → (n ≡ blank s at) × (at + n ≤ length s) → n ≤ 0 → Byte s at b → b ≡ 0x23 → Reaches (comment (suc (length s)) s (at + 1)) s (at + 1) r
-      → Spacing s from r
-  one-comment at n b r g k z i h w = record {
-    is = rw w.is (sym (space-comment s at (omega (arith, k.0)) (sym i.is ∙ h)) ∙ g.is);
-    low = omega (arith, g.low, w.low);
-    high = w.high;
+  pub one-comment : (at b : ℕ) → Spacing s from at → blank s at ≡ 0 → Byte s at b → b ≡ 0x23 → Commenting s from (at + 1) (at + 1)
+  one-comment at b g k i h = record {
+    is = sym (space-comment s at k (sym i.is ∙ h)) ∙ g.is;
+    low = omega (arith, g.low);
+    moved = omega arith;
+    high = omega (arith, i.within);
   }
 
-  pub no-comment : (at n b : ℕ) → Spacing s from at → (n ≡ blank s at) × (at + n ≤ length s) → n ≤ 0 → Byte s at b → (b ≡ 0x23 → ⊥) → Reaches (space s from) s from at
-  no-comment at n b g k z i h = record {
-    is = sym (space-stop s at (omega (arith, k.0)) (λ e. h (i.is ∙ e))) ∙ g.is;
+  pub no-comment : (at b : ℕ) → Spacing s from at → blank s at ≡ 0 → Byte s at b → (b ≡ 0x23 → ⊥) → Reaches (space s from) s from at
+  no-comment at b g k i h = record {
+    is = sym (space-stop s at k (λ e. h (i.is ∙ e))) ∙ g.is;
     low = g.low;
     high = g.high;
   }
 
-  pub line-first : from ≤ length s → Commenting s from from
-  line-first h = record { is = refl; low = omega arith; high = h }
-
-  module _ (at end next : ℕ) (on : Bool) (g : Commenting s from at) (l : Reaches (past in_line s at) s at end) (o : on ≡ goes_on s at (end - at)) (n : next ≡ min (length s) (end + 1)) where
+  module _ (first at end next : ℕ) (on : Bool) (g : Commenting s from first at) (l : Reaches (past in_line s at) s at end) (o : on ≡ goes_on s at (end - at)) (n : next ≡ min (length s) (end + 1)) where
     goes : goes_on s at (past in_line s at - at) ≡ on
     goes = rw (← l.is) (sym o)
 
@@ -95,19 +92,20 @@ module _ (s : List ℕ) (from : ℕ) where
     unfolding next_line
     to = omega (arith, n, l.is)
 
-    pub line_on : on ≡ true → Commenting s from next
+    pub line_on : on ≡ true → Commenting s from first next
     line_on e = record {
-      is = rw to (sym (comment-on s at g.high (goes ∙ e)) ∙ g.is);
+      is = rw to (sym (ap (λ (i : ℕ). space s i) (comment-on s at g.high (goes ∙ e))) ∙ g.is);
       low = omega (arith, g.low, l.low, l.high, n);
+      moved = omega (arith, g.moved, l.low, l.high, n);
       high = omega (arith, n);
     }
 
     pub line-moves : on ≡ true → at < next
     line-moves e = omega (arith, n, l.high, on_some s at (end - at) (sym o ∙ e))
 
-    pub line-off : on ≡ false → Reaches (comment (suc (length s)) s from) s from next
+    pub line-off : on ≡ false → Spacing s from next
     line-off e = record {
-      is = to ∙ sym (comment-off s at (goes ∙ e)) ∙ g.is;
+      is = rw to (sym (ap (λ (i : ℕ). space s i) (comment-off s at (goes ∙ e))) ∙ g.is);
       low = omega (arith, g.low, l.low, l.high, n);
       high = omega (arith, n);
     }

@@ -22,7 +22,7 @@ pub record Byte (s : List ℕ) (at r : ℕ) : Type 0 where
   pub is : r ≡ byte s at
   pub within : at + 1 ≤ length s + (1 - r)
 
--- the number of a tag, and 0 for none
+-- the number of a tag
 abbrev pub tag_of : Tag → ℕ
 tag_of Word = 0x01
 tag_of Var = 0x02
@@ -33,6 +33,7 @@ tag_of Str = 0x06
 tag_of Block = 0x07
 tag_of Text = 0x08
 
+-- the same, and 0 for none
 abbrev pub tag_at : Option Tag → ℕ
 tag_at None = 0
 tag_at (Some tag) = tag_of tag
@@ -181,6 +182,13 @@ pub record Quotes (s : List ℕ) (at : ℕ) (e e' : Room) (r : ℕ) : Type 0 whe
   pub high : r ≤ length s
   pub errors : e'.next + 10 * at ≤ e.next + 10 * r + 10
   pub err : e'.bytes.ghost_name ≡ e.bytes.ghost_name
+
+-- seven bytes that are left in a room, and their offset
+pub record Leaves (a : Room) (o : ℕ) (b : Room) : Type 0 where
+  pub at : o ≡ a.next
+  pub next : b.next ≡ a.next + 7
+  pub same : b.bytes.ghost_name ≡ a.bytes.ghost_name
+  pub room : b.bytes.now ≡ a.bytes.now
 
 -- a string or block of so many bytes: its end, and its record in the seven bytes before the members
 pub record Encloses (tag o start size : ℕ) (a b : Room) : Type 0 where

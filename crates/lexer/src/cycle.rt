@@ -1,4 +1,7 @@
 // The cycle: tokens, a token, a block, a string, an escape call one another. Siblings are read by a loop, what is nested by a call.
+//
+// Kept: two rooms are two parameters: a scan puts errors alone, and of a room inside another struct nothing is known once its borrow ends.
+// Kept: `Ready` and `Within` tie the place to both rooms, and a place moves between two puts: as an invariant of a cursor that would be broken in the middle of each function. Likewise `at ≤ length s`.
 ghost use Rattle.std.specs.Prelude.{◌≡◌, ◌+◌, ◌-◌, ◌*◌, ◌≤◌, ◌<◌, length};
 ghost use Rattle.lexer.specs.Scan.{byte, past};
 ghost use Rattle.lexer.specs.Kind.{kind, plain};
@@ -148,8 +151,7 @@ fn block(
     if n == 0 {
         return Err(TooDeep { place: at });
     }
-    let left = out.next;
-    out.next += 7;
+    let left = out.leave();
     let p = tokens(s, n - 1, at + 1, out, err)?;
     let end = close(s, byte_at(s, at), skip(s, p), out, err);
     out.enclose(left, Tag::Block, at, end - at);
@@ -171,8 +173,7 @@ fn str(
     if n == 0 {
         return Err(TooDeep { place: at });
     }
-    let left = out.next;
-    out.next += 7;
+    let left = out.leave();
     let mut p = at + 1;
     loop {
         let q = text(s, p, out);

@@ -40,21 +40,6 @@ struct Sizes {
     errors: usize,
 }
 
-// The whole source, from behind its leading space on: its tokens into one room, what is wrong with it into the other.
-fn whole(s: &[u8], from: usize, out: &mut [u8], err: &mut [u8]) -> Result<Sizes, TooDeep>
-    requires { Begun s.now from }
-    ensures { Listed (whole s.now) out.old out.new err.old err.new result }
-{
-    let mut tokens = Room::new(out);
-    let mut errors = Room::new(err);
-    let at = cycle::tokens(s, 128, from, &mut tokens, &mut errors)?;
-    rest(s, at, &mut errors);
-    Ok(Sizes {
-        tokens: tokens.next,
-        errors: errors.next,
-    })
-}
-
 // "After the top tokens and space, any rest is one Token error at its start."
 fn rest(s: &[u8], at: usize, err: &mut Room<'_>)
     requires { Within s.now at err.old.next }
@@ -66,84 +51,91 @@ fn rest(s: &[u8], at: usize, err: &mut Room<'_>)
     }
 }
 
-// The listing of what is wrong, which takes so many bytes, into the room lent.
-fn list_errors(source: &[u8], from: usize, size: usize, out: &mut [u8]) -> Result<Listing, Refusal>
-    requires { Begun source.now from × (listed 2 (whole source.now) ≡ listing 1 (errors_due (whole source.now))) × (size ≡ length (errors_due (whole source.now))) × (size ≤ 1048576) }
-    ensures { Told (listed 2 (whole source.now)) out.old out.new (answer_of result) }
-{
-    if size > out.len() {
-        return Err(Refusal::NoRoom);
-    }
-    whole(source, from, &mut [], out)?;
-    Ok(Listing::Errors(size))
-}
-
-// The listing of the tokens, which takes so many bytes, into the room lent: out of the scratch, if it went in whole.
-fn list_tokens(
-    source: &[u8],
+// A source that is not too long, and the place behind its leading space.
+#[derive(Clone, Copy)]
+struct Source<'a> {
+    bytes: &'a [u8],
     from: usize,
-    size: usize,
-    scratch: &[u8],
-    out: &mut [u8],
-) -> Result<Listing, Refusal>
-    requires { Begun source.now from × (listed 2 (whole source.now) ≡ listing 0 (tokens_due (whole source.now))) × (size ≡ length (tokens_due (whole source.now))) × (size ≤ 1048576) × (size ≤ length scratch.now → take size scratch.now ≡ tokens_due (whole source.now)) }
-    ensures { Told (listed 2 (whole source.now)) out.old out.new (answer_of result) }
-{
-    if size > out.len() {
-        return Err(Refusal::NoRoom);
-    }
-    if size <= scratch.len() {
-        fields::put(out, 0, &scratch[..size]);
-    } else {
-        whole(source, from, out, &mut [])?;
-    }
-    Ok(Listing::Due(size))
+    ghost begun: { Begun bytes.now from },
 }
 
-// By way of scratch of any size.
-fn through(
-    source: &[u8],
-    from: usize,
-    scratch: &mut [u8],
-    out: &mut [u8],
-) -> Result<Listing, Refusal>
-    requires { Begun source.now from }
-    ensures { Told (listed 2 (whole source.now)) out.old out.new (answer_of result) }
-{
-    let sizes = whole(source, from, scratch, &mut [])?;
-    if sizes.errors > 4 {
-        return list_errors(source, from, sizes.errors, out);
+impl<'a> Source<'a> {
+    // The whole source, from there on: its tokens into one room, what is wrong with it into the other.
+    fn whole(self, out: &mut [u8], err: &mut [u8]) -> Result<Sizes, TooDeep>
+        ensures { Listed (whole self.entry.bytes.now) out.old out.new err.old err.new result }
+    {
+        let mut tokens = Room::new(out);
+        let mut errors = Room::new(err);
+        let at = cycle::tokens(self.bytes, 128, self.from, &mut tokens, &mut errors)?;
+        rest(self.bytes, at, &mut errors);
+        Ok(Sizes {
+            tokens: tokens.next,
+            errors: errors.next,
+        })
     }
-    list_tokens(source, from, sizes.tokens, scratch, out)
-}
 
-// By way of scratch of N bytes, in a frame of its own: scratch costs its clearing, so that there are several sizes of it, and a short
-// source pays for none of the larger.
-#[inline(never)]
-fn by_scratch<const N: usize>(
-    source: &[u8],
-    from: usize,
-    out: &mut [u8],
-) -> Result<Listing, Refusal>
-    requires { Begun source.now from × (N ≤ 262144) }
-    ensures { Told (listed 2 (whole source.now)) out.old out.new (answer_of result) }
-{
-    let mut scratch = [0u8; N];
-    through(source, from, &mut scratch, out)
-}
+    // The listing of what is wrong, which takes so many bytes, into the room lent.
+    fn list_errors(self, size: usize, out: &mut [u8]) -> Result<Listing, Refusal>
+        requires { (listed 2 (whole self.bytes.now) ≡ listing 1 (errors_due (whole self.bytes.now))) × (size ≡ length (errors_due (whole self.bytes.now))) × (size ≤ 1048576) }
+        ensures { Told (listed 2 (whole self.entry.bytes.now)) out.old out.new (answer_of result) }
+    {
+        if size > out.len() {
+            return Err(Refusal::NoRoom);
+        }
+        self.whole(&mut [], out)?;
+        Ok(Listing::Errors(size))
+    }
 
-// By way of eight bytes of scratch, or more, for each byte that is left.
-fn fitting(source: &[u8], from: usize, out: &mut [u8]) -> Result<Listing, Refusal>
-    requires { Begun source.now from }
-    ensures { Told (listed 2 (whole source.now)) out.old out.new (answer_of result) }
-{
-    match source.len() - from {
-        0..=32 => by_scratch::<256>(source, from, out),
-        33..=256 => by_scratch::<2048>(source, from, out),
-        257..=1024 => by_scratch::<8192>(source, from, out),
-        1025..=4096 => by_scratch::<32768>(source, from, out),
-        4097..=16384 => by_scratch::<131072>(source, from, out),
-        _ => by_scratch::<262144>(source, from, out),
+    // The listing of the tokens, which takes so many bytes, into the room lent: out of the scratch, if it went in whole.
+    fn list_tokens(self, size: usize, scratch: &[u8], out: &mut [u8]) -> Result<Listing, Refusal>
+        requires { (listed 2 (whole self.bytes.now) ≡ listing 0 (tokens_due (whole self.bytes.now))) × (size ≡ length (tokens_due (whole self.bytes.now))) × (size ≤ 1048576) × (size ≤ length scratch.now → take size scratch.now ≡ tokens_due (whole self.bytes.now)) }
+        ensures { Told (listed 2 (whole self.entry.bytes.now)) out.old out.new (answer_of result) }
+    {
+        if size > out.len() {
+            return Err(Refusal::NoRoom);
+        }
+        if size <= scratch.len() {
+            fields::put(out, 0, &scratch[..size]);
+        } else {
+            self.whole(out, &mut [])?;
+        }
+        Ok(Listing::Due(size))
+    }
+
+    // By way of scratch of any size.
+    fn through(self, scratch: &mut [u8], out: &mut [u8]) -> Result<Listing, Refusal>
+        ensures { Told (listed 2 (whole self.entry.bytes.now)) out.old out.new (answer_of result) }
+    {
+        let sizes = self.whole(scratch, &mut [])?;
+        if sizes.errors > 4 {
+            return self.list_errors(sizes.errors, out);
+        }
+        self.list_tokens(sizes.tokens, scratch, out)
+    }
+
+    // By way of scratch of N bytes, in a frame of its own: scratch costs its clearing, so that there are several sizes of it, and a short
+    // source pays for none of the larger.
+    #[inline(never)]
+    fn by_scratch<const N: usize>(self, out: &mut [u8]) -> Result<Listing, Refusal>
+        requires { N ≤ 262144 }
+        ensures { Told (listed 2 (whole self.entry.bytes.now)) out.old out.new (answer_of result) }
+    {
+        let mut scratch = [0u8; N];
+        self.through(&mut scratch, out)
+    }
+
+    // By way of eight bytes of scratch, or more, for each byte that is left.
+    fn fitting(self, out: &mut [u8]) -> Result<Listing, Refusal>
+        ensures { Told (listed 2 (whole self.entry.bytes.now)) out.old out.new (answer_of result) }
+    {
+        match self.bytes.len() - self.from {
+            0..=32 => self.by_scratch::<256>(out),
+            33..=256 => self.by_scratch::<2048>(out),
+            257..=1024 => self.by_scratch::<8192>(out),
+            1025..=4096 => self.by_scratch::<32768>(out),
+            4097..=16384 => self.by_scratch::<131072>(out),
+            _ => self.by_scratch::<262144>(out),
+        }
     }
 }
 
@@ -159,5 +151,10 @@ pub fn lex(source: &[u8], out: &mut [u8]) -> Result<Listing, Refusal>
     if valid < n {
         return Err(Refusal::NotWellFormed(valid));
     }
-    fitting(source, space::skip(source, 0), out)
+    let from = space::skip(source, 0);
+    Source {
+        bytes: source,
+        from,
+    }
+    .fitting(out)
 }

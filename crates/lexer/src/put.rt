@@ -3,7 +3,7 @@ ghost use Rattle.std.specs.Prelude.{◌≡◌, [], ◌∷◌, ◌+◌, ◌*◌, 
 ghost use Rattle.lexer.specs.Token.{one, leaf, char};
 ghost use Rattle.lexer.specs.Lex.{text};
 ghost use Rattle.lexer.specs.Listing.{pair, error_tag, tokens_bytes};
-ghost use Rattle.lexer.specs.Meets.{expect_of, Opened, Put, Puts, Erred, Encloses, tag_of};
+ghost use Rattle.lexer.specs.Meets.{expect_of, Opened, Put, Puts, Erred, Leaves, Encloses, tag_of};
 
 use crate::token::Tag;
 
@@ -105,6 +105,16 @@ impl<'a> Room<'a> {
         if from < to {
             self.put_leaf(Tag::Text, from, to - from);
         }
+    }
+
+    // Leaves seven bytes for the record of a string or block, whose offset is given.
+    pub fn leave(&mut self) -> usize
+        requires { self.old.next + 7 < 2 ^ 64 }
+        ensures { Leaves self.old result self.new }
+    {
+        let offset = self.next;
+        self.next += 7;
+        offset
     }
 
     // The end of a string or block, and its record, into the seven bytes that were left for that.

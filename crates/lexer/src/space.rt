@@ -1,24 +1,24 @@
 // White space and comments.
-ghost use Rattle.std.specs.Prelude.{◌≡◌, ◌==◌, Bool, ℕ, ◌+◌, ◌-◌, ◌≤◌, ◌<◌, suc, length};
+ghost use Rattle.std.specs.Prelude.{◌≡◌, ◌==◌, Bool, ℕ, ◌+◌, ◌-◌, ◌≤◌, ◌<◌, MatchOption, length};
 ghost use Rattle.std.specs.List.{list_all, suffix_len};
 ghost use Rattle.lexer.specs.Scan.{past};
-ghost use Rattle.lexer.specs.Space.{blank, in_line, goes_on, comment, space};
+ghost use Rattle.lexer.specs.Space.{blank, in_line, goes_on, space};
 ghost use Rattle.lexer.specs.Meets.{bare, Reaches, Spacing, Tests};
 
 use crate::scan::{byte_at, past};
 
-// How many bytes the white space character at a place has. One of ASCII is told by its byte.
-fn blank(s: &[u8], at: usize) -> usize
+// How many bytes the white space character at a place has, if one stands there. One of ASCII is told by its byte.
+fn blank(s: &[u8], at: usize) -> Option<usize>
     requires { at ≤ length s.now }
-    ensures { (result ≡ blank s.now at) × (at + result ≤ length s.now) }
+    ensures { MatchOption result (blank s.now at ≡ 0) (λ n. (n ≡ blank s.now at) × (0 < n) × (at + n ≤ length s.now)) }
 {
     match byte_at(s, at) {
         0x80..=0xFF => match text::char_at(s, at) {
-            Some(c) if text::white_space(c.code) => c.len,
-            _ => 0,
+            Some(c) if text::white_space(c.code) => Some(c.len),
+            _ => None,
         },
-        b'\t'..=b'\r' | b' ' => 1,
-        _ => 0,
+        b'\t'..=b'\r' | b' ' => Some(1),
+        _ => None,
     }
 }
 
@@ -76,22 +76,6 @@ fn goes_on(s: &[u8], at: usize, end: usize) -> bool
     slashes(line.strip_suffix(b"\r").unwrap_or(line)) % 2 == 1
 }
 
-// The place behind a comment, of which a line starts at a place. It is left with the first line that does not go on.
-fn comment(s: &[u8], from: usize) -> usize
-    requires { from ≤ length s.now }
-    ensures { Reaches (comment (suc (length s.now)) s.now from) s.now from result }
-{
-    let mut at = from;
-    loop {
-        let end = line_end(s, at);
-        let on = goes_on(s, at, end);
-        at = s.len().min(end + 1);
-        if !on {
-            return at;
-        }
-    }
-}
-
 // The place behind the spaces that start at a place. White space is mostly short, and so are the blocks.
 fn spaces(s: &[u8], at: usize) -> usize
     requires { at ≤ length s.now }
@@ -100,23 +84,32 @@ fn spaces(s: &[u8], at: usize) -> usize
     past_many::<16, _>(s, at, |b| b == b' ')
 }
 
-// White space and comments from a place on.
+// White space and comments from a place on. A comment is left with the first line that does not go on.
 pub fn space(s: &[u8], from: usize) -> usize
     requires { from ≤ length s.now }
     ensures { Reaches (space s.now from) s.now from result }
 {
     let mut at = from;
-    loop {
+    'space: loop {
         at = spaces(s, at);
-        let n = blank(s, at);
-        if n > 0 {
+        if let Some(n) = blank(s, at) {
             at += n;
-        } else if byte_at(s, at) == b'#' {
-            at = comment(s, at + 1);
-        } else {
-            return at;
+            continue 'space;
+        }
+        if byte_at(s, at) != b'#' {
+            break 'space;
+        }
+        at += 1;
+        'lines: loop {
+            let end = line_end(s, at);
+            let on = goes_on(s, at, end);
+            at = s.len().min(end + 1);
+            if !on {
+                break 'lines;
+            }
         }
     }
+    at
 }
 
 // Whether a byte is ASCII and starts neither white space nor a comment. (0 stands at the end.)

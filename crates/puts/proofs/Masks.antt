@@ -1,10 +1,11 @@
 -- Tail sets: the code's words and the rules' sets. Assumes nothing.
 use mathlib.Core.Path.{◌≡◌, refl, sym, ap, ◌∙◌}
 use mathlib.Core.Logic.{◌⊎◌, inl, inr}
-use Prim.Native.Nat.{ℕ, ◌-◌, ◌*◌, ◌%◌, ◌^◌, ◌≤◌, ◌<◌}
+use Prim.Native.Nat.{ℕ, ◌+◌, ◌-◌, ◌*◌, ◌%◌, ◌^◌, ◌≤◌, ◌<◌}
 use native.Mathlib.Nat.{mod-eq_of_lt}
 use native.Mathlib.Omega.{arith}
 use lib.Bits.{bit_and, and_self, and_zero_l}
+use lib.Count.{ones, ones_in, ones_cat}
 use lib.Pow.{pow-lt, pow_pos}
 use borrow.Author.Tests.{lt-ltb, le-ltb, eq-eqb, ne_eqb}
 use Rattle.rules.specs.Table.{kind_number}
@@ -62,18 +63,25 @@ module _ (l u s r : ℕ) (e : u ≡ bit l) where
 
 -- ---- "Module calls return nothing: CatchOne if self-returning, else Inline."
 
+ones-pow : (l : ℕ) → ones (2 ^ l) ≡ 1
+unfolding ones ones_in
+ones-pow l =
+    let e : 1 * 2 ^ l + 0 ≡ 2 ^ l = omega arith in
+    ap ones (sym e) ∙ ones_cat l 1 0 (pow_pos l)
+
 bit-pow : (l : ℕ) → l < 64 → bit l ≡ 2 ^ l
 unfolding bit
 bit-pow l h = rw (lt-ltb l 64 h)
 
--- the set is empty
-pub outer-none : (s l : ℕ) → s ≡ 0 → (s ≡ 0) ⊎ (s ≡ bit l) → l < 64 → 0 ≡ kind_number (module_kind l (sibling s))
+-- a set that holds nothing is empty
+pub outer-none : (s l : ℕ) → ones s ≡ 0 → (s ≡ 0) ⊎ (s ≡ bit l) → l < 64 → 0 ≡ kind_number (module_kind l (sibling s))
 unfolding module_kind has
-outer-none s l h o k = rw (eq-eqb (bit_and s (bit l)) 0 (ap (λ (x : ℕ). bit_and x (bit l)) h ∙ and_zero_l (bit l)))
+outer-none s l h (inl e) k = rw (eq-eqb (bit_and s (bit l)) 0 (ap (λ (x : ℕ). bit_and x (bit l)) e ∙ and_zero_l (bit l)))
+outer-none s l h (inr e) k = absurd (omega (arith, h, ap ones (e ∙ bit-pow l k) ∙ ones-pow l))
 
--- or it holds the definition itself
-pub outer-own : (s l : ℕ) → (s ≡ 0 → ⊥) → (s ≡ 0) ⊎ (s ≡ bit l) → l < 64 → 2 ≡ kind_number (module_kind l (sibling s))
-unfolding module_kind has
-outer-own s l h (inl e) k = absurd (h e)
+-- and one that holds something holds the definition itself
+pub outer-own : (s l : ℕ) → (ones s ≡ 0 → ⊥) → (s ≡ 0) ⊎ (s ≡ bit l) → l < 64 → 2 ≡ kind_number (module_kind l (sibling s))
+unfolding module_kind has ones ones_in
+outer-own s l h (inl e) k = absurd (h (ap ones e))
 outer-own s l h (inr e) k =
     rw (ne_eqb (bit_and s (bit l)) 0 (λ z. omega (arith, pow_pos l, sym (and_self (bit l) ∙ bit-pow l k), ap (λ (x : ℕ). bit_and x (bit l)) (sym e) ∙ z)))

@@ -5,20 +5,58 @@ ghost use Rattle.rules.specs.Table.{kind_number};
 ghost use Rattle.puts.specs.Calls.{call_number};
 ghost use Rattle.rules.specs.Tails.{bit, parent, sibling, local_call, module_kind};
 
-// "The four call kinds keep fixed numbers"
+// "The four call kinds keep fixed numbers": the constants. The tables are written by the constructors and `number`.
+// Kept: constants and constructors beside the variants, since document 01 names this form for them.
 #[derive(Clone, Copy, PartialEq, Eq)]
 pub enum CallType {
-    Inline = 0,
-    Throw = 1,
-    CatchOne = 2,
-    CatchAll = 3,
+    Inline,
+    Throw,
+    CatchOne,
+    CatchAll,
 }
 
 impl CallType {
+    pub const INLINE: u8 = 0;
+
+    pub const THROW: u8 = 1;
+
+    pub const CATCH_ONE: u8 = 2;
+
+    pub const CATCH_ALL: u8 = 3;
+
+    pub fn new_inline() -> CallType
+        ensures { call_number result ≡ 0 }
+    {
+        CallType::Inline
+    }
+
+    pub fn new_throw() -> CallType
+        ensures { call_number result ≡ 1 }
+    {
+        CallType::Throw
+    }
+
+    pub fn new_catch_one() -> CallType
+        ensures { call_number result ≡ 2 }
+    {
+        CallType::CatchOne
+    }
+
+    pub fn new_catch_all() -> CallType
+        ensures { call_number result ≡ 3 }
+    {
+        CallType::CatchAll
+    }
+
     pub fn number(self) -> u8
         ensures { result ≡ call_number self }
     {
-        self as u8
+        match self {
+            CallType::Inline => CallType::INLINE,
+            CallType::Throw => CallType::THROW,
+            CallType::CatchOne => CallType::CATCH_ONE,
+            CallType::CatchAll => CallType::CATCH_ALL,
+        }
     }
 }
 
@@ -38,6 +76,13 @@ pub fn bit(l: u64) -> u64
     0
 }
 
+// How many definitions a set holds.
+fn size(s: u64) -> u32
+    ensures { result ≡ ones s }
+{
+    u64::count_ones(s)
+}
+
 // "Parent: Throw if allowed, returning itself, else CatchAll returning nothing."
 pub fn parent(l: u64, allowed: u64) -> Jump
     ensures { (call_number result.call ≡ kind_number (local_call l parent allowed).kind) × (result.tail ≡ (local_call l parent allowed).tail) }
@@ -45,12 +90,12 @@ pub fn parent(l: u64, allowed: u64) -> Jump
     let own = bit(l);
     if allowed & own == 0 {
         return Jump {
-            call: CallType::CatchAll,
+            call: CallType::new_catch_all(),
             tail: 0,
         };
     }
     Jump {
-        call: CallType::Throw,
+        call: CallType::new_throw(),
         tail: own,
     }
 }
@@ -64,17 +109,17 @@ pub fn sibling(l: u64, set: u64, allowed: u64) -> Jump
     if rest & allowed == rest {
         if own == 0 {
             return Jump {
-                call: CallType::Inline,
+                call: CallType::new_inline(),
                 tail: rest,
             };
         }
         return Jump {
-            call: CallType::CatchOne,
+            call: CallType::new_catch_one(),
             tail: rest,
         };
     }
     Jump {
-        call: CallType::CatchAll,
+        call: CallType::new_catch_all(),
         tail: 0,
     }
 }
@@ -84,14 +129,14 @@ pub fn outer(set: u64) -> Jump
     requires { ones set ≤ 1 }
     ensures { ((l : ℕ) → (set ≡ 0) ⊎ (set ≡ bit l) → l < 64 → call_number result.call ≡ kind_number (module_kind l (sibling set))) × (result.tail ≡ 0) }
 {
-    if set == 0 {
+    if size(set) == 0 {
         return Jump {
-            call: CallType::Inline,
+            call: CallType::new_inline(),
             tail: 0,
         };
     }
     Jump {
-        call: CallType::CatchOne,
+        call: CallType::new_catch_one(),
         tail: 0,
     }
 }

@@ -1,4 +1,7 @@
 // Records: each is put as far as there is room. Over an empty room nothing is written.
+//
+// Kept: room and offset are two parameters: a record goes to the place that was reserved for it, and what is put next goes elsewhere.
+// Kept: `put_bare` to `put_filter_error` are `put_numbers` by the count of numbers, one line each, and say in a caller which record that is.
 ghost use Rattle.std.specs.Prelude.{◌≡◌, [], ◌∷◌, ◌++◌, ◌+◌, ◌*◌, ◌/◌, ◌%◌, ◌<◌, ◌^◌, length, set};
 ghost use Rattle.fields.specs.Number.{number};
 ghost use Rattle.fields.specs.Field.{field};
@@ -14,6 +17,7 @@ pub fn put1(out: &mut [u8], o: usize, b: u8)
     }
 }
 
+// Kept: the two bytes of a number by themselves, since a record's bytes are stored one by one, with no array of two between.
 // The lower byte of a number.
 fn low(a: usize) -> u8
     ensures { result ≡ a % 256 }
@@ -41,9 +45,7 @@ fn put_bytes<const N: usize>(out: &mut [u8], o: usize, bytes: [u8; N])
         put_some(out, o, bytes);
         return;
     }
-    for i in 0..N {
-        out[o + i] = bytes[i];
-    }
+    out[o..o + N].copy_from_slice(&bytes);
 }
 
 // The same, as far as there is room. A function of its own, so that elsewhere the bytes are no array in memory.

@@ -127,6 +127,9 @@ unfolding parts_width
 parts-nil = refl
 
 module _ (b : List ℕ) (q z : ℕ) where
+  pub add-start : Adding b q z q 0
+  add-start = record { goes = λ xs h. (xs, h, omega arith); room = omega arith }
+
   -- a part stands at p, for some stand at q
   pub add-part : (p w : ℕ) → Adding b q z p w → (xs : Parts) → Row b (f_parts xs rnil) q z → p < z → (x : Part) × Row b (rcons (f_part x) rnil) p (end_of b p)
   add-part p w g xs h l =

@@ -1,7 +1,7 @@
 -- Fields one after the other, as the code passes them: how many there are, and parameters or definitions that a term follows. Assumes nothing.
 use mathlib.Core.Path.{◌≡◌, refl, sym, ap, subst, ◌∙◌}
 use mathlib.Core.List.{List, [], ◌∷◌}
-use Prim.Native.Nat.{ℕ, zero, suc, ◌+◌, ◌-◌, ◌*◌, ◌≤◌, ◌<◌}
+use Prim.Native.Nat.{ℕ, zero, suc, ◌+◌, ◌*◌, ◌≤◌, ◌<◌}
 use native.Mathlib.Omega.{arith}
 use lib.ListN.{length, get_or}
 use Rattle.tree.specs.Rose.{Roses, rnil, rcons, end_of, tag_of, At, Row, row-le}
@@ -12,10 +12,10 @@ use Rattle.tree.proofs.Form.{term-place}
 use Rattle.reads.specs.Parts.{row-tag, row_fits, row-rest}
 use Rattle.reads.specs.Tagged.{Tagged}
 use Rattle.reads.specs.Bytes.{many, after, TermAt}
-use Rattle.reads.specs.Places.{Stand, GivesField, turned, row-over}
+use Rattle.reads.specs.Places.{GivesField, turned, row-over}
 use Rattle.std.specs.Iterator.{Drains}
 use Rattle.std.specs.Prelude.{None}
-use Rattle.reads.specs.declared.bytes.Places.{Places}
+use Rattle.tree.specs.declared.places.Places.{Places}
 
 -- ---- how many
 
@@ -29,18 +29,6 @@ pub row-none : (b : List ℕ) (rs : Roses) (p z : ℕ) → Row b rs p z → z �
 unfolding At many
 row-none b rnil p z h l = refl
 row-none b (rcons r rs) p z h l = absurd (omega (arith, row-le b rs (end_of b p) z h.2))
-
--- what stands where an iterator goes next, and behind it
-pub stand-fits : (s : Places) → Stand s → s.at < s.end → end_of s.tree.now s.at ≤ s.end
-stand-fits s h l =
-    let k = row_step s.tree.now h.1.0 s.at s.end h.1.1 l in
-    row-le s.tree.now k.0 (end_of s.tree.now s.at) s.end k.1
-
-pub stand-next : (s : Places) (r : ℕ) → Stand s → s.at < s.end → r ≡ end_of s.tree.now s.at
-    → Stand (record { tree = s.tree; at = r; end = s.end }) × (s.end - r < s.end - s.at)
-stand-next s r h l e =
-    let k = row_step s.tree.now h.1.0 s.at s.end h.1.1 l in
-    ((h.0, (k.0, subst (λ (n : ℕ). Row s.tree.now k.0 n s.end) (sym e) k.1)), omega (arith, e, l))
 
 -- an iterator gives as many places as fields stand, each of three bytes or more
 pub gives_all : (s : Places) (xs : List ℕ) → Drains GivesField s xs → (rs : Roses) → Row s.tree.now rs s.at s.end → (length xs ≡ many rs) × (s.at + 3 * length xs ≤ s.end)

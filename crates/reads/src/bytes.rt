@@ -1,5 +1,8 @@
 // Tree bytes: where a field ends, how many fields follow each other, texts and how they compare. A place is the offset of a field's tag byte.
 // Every reader asks that the field lies within the bytes: `end_of b p ≤ length b`.
+//
+// Kept: tags and operators are bytes, those of docs/TREE.md and of document 01's listing, of which the definitions speak: an enum would be made of each byte and taken apart in the same line.
+// Kept: the bytes and a place in them are two parameters: a place is a number that rows, records and errors keep, and each reader goes on to others.
 ghost use Rattle.std.specs.Prelude.{◌≡◌, List, ℕ, ◌+◌, ◌*◌, ◌≤◌, ◌<◌, length, take, drop, SomeIff};
 ghost use Rattle.tree.specs.Rose.{Roses, rnil, rcons, end_of, text_of, Row};
 ghost use Rattle.tree.specs.Tree.{Name, Term, Defs};
@@ -7,6 +10,8 @@ ghost use Rattle.tree.specs.Form.{f_term, f_names, f_defs};
 ghost use Rattle.rules.specs.Names.{same, is_var};
 ghost use Rattle.reads.specs.Bytes.{len_of, pair_at, four_of, many, after, TermAt, is_tag, past, sub_pattern, word_of, colons_at, colons_of};
 ghost use Rattle.reads.specs.Tagged.{Tagged};
+
+pub use tree::places::{Places, end_of, fields};
 
 // The number that two bytes from p on hold.
 fn pair(b: &[u8], p: usize) -> usize
@@ -32,14 +37,6 @@ pub fn len_of(b: &[u8], p: usize) -> usize
     pair(b, p + 1)
 }
 
-// The place after the field at p.
-pub fn end_of(b: &[u8], p: usize) -> usize
-    requires { end_of b.now p ≤ length b.now }
-    ensures { result ≡ end_of b.now p }
-{
-    p + 3 + len_of(b, p)
-}
-
 // The number that the field at p holds in two bytes.
 pub fn number_at(b: &[u8], p: usize) -> usize
     requires { p + 5 ≤ length b.now }
@@ -54,47 +51,6 @@ pub fn char_at(b: &[u8], p: usize) -> u32
     ensures { result ≡ four_of b.now (p + 3) }
 {
     four(b, p + 3)
-}
-
-// The places of the fields that stand from `at` up to `end`, each where the one before it ends.
-#[derive(Clone, Copy)]
-pub struct Places<'a> {
-    pub tree: &'a [u8],
-    pub at: usize,
-    pub end: usize,
-}
-
-// The fields from q up to z.
-pub fn fields(b: &[u8], q: usize, z: usize) -> Places<'_>
-    ensures { (result.tree.now ≡ b.now) × (result.at ≡ q) × (result.end ≡ z) }
-{
-    Places {
-        tree: b,
-        at: q,
-        end: z,
-    }
-}
-
-impl<'a> Iterator for Places<'a> {
-    ghost use Rattle.reads.specs.Places.{Stand, GivesField, fields_left};
-
-    type Item = usize;
-
-    ghost can_next = { Stand };
-
-    ghost next_gives = { GivesField };
-
-    ghost remaining = { fields_left };
-
-    #[inline]
-    fn next(&mut self) -> Option<usize> {
-        let p = self.at;
-        if p < self.end {
-            self.at = end_of(self.tree, p);
-            return Some(p);
-        }
-        None
-    }
 }
 
 // How many fields stand from q up to z.
@@ -119,7 +75,7 @@ fn tagged(b: &[u8], q: usize, tag: u8) -> Sig
 {
     let mut i = 0;
     let mut p = q;
-    // Kept: only the next field's tag says where these end, and `fields` goes up to a place that is known.
+    // Kept: only the next field's tag says where these end; `params` and `after_defs`, which are public, are given no end, and `fields` asks for one.
     while b[p] == tag {
         p = end_of(b, p);
         i += 1;

@@ -96,6 +96,7 @@ pub enum FoldKind {
 }
 
 // A fold: the places of source, pattern, init and update, how many arguments it has, what it is, if it is any of these, and the length of its record.
+// Kept: where there are fewer than two arguments there is no update, and `u` is `i`: `a` says so, and who reads `u` has looked at `a`.
 #[derive(Clone, Copy)]
 pub struct Fold {
     pub x: usize,
@@ -215,6 +216,7 @@ fn string_width(b: &[u8], q: usize) -> usize
     }
 }
 
+// Kept: beside `entries_width`: what both ask is whether there are members and how many, and what one alone takes is what differs.
 // The own record of a string whose parts stand from q up to z.
 pub fn strings_width(b: &[u8], q: usize, z: usize) -> usize
     requires { (z ≤ length b.now) × ((xs : StrParts) × Row b.now (f_str_parts xs rnil) q z) }

@@ -1,4 +1,7 @@
 // The own records of terms with many members, whose numbers are in notes; of calls, by what the name means; and the errors of calls.
+//
+// Kept: `as` for numbers in cells, which are u64: there is no `From` between it and usize.
+// Kept: tree, rows, room and offset are parameters of their own: each function takes those that it reads, and `&` says that it leaves them.
 
 #![tactic(auto)]
 
@@ -390,6 +393,7 @@ fn put_args(tree: &[u8], rows: &[u64], j: usize, k: usize, a: usize, out: &mut [
     put_number(out, o, a);
     let mut p = end_of(tree, cells::place(rows, j));
     let mut x = o + 2;
+    // Kept: how many parameters they are is known, and not where they end, which `fields` asks for.
     for i in 0..a {
         put1(out, x, u8::from(!bytes::is_var(tree, p)));
         put_number(out, x + 1, number(rows, k + i));
@@ -398,6 +402,7 @@ fn put_args(tree: &[u8], rows: &[u64], j: usize, k: usize, a: usize, out: &mut [
     }
 }
 
+// Kept: beside `put_def`: what both do is `put_args`, and what is left differs.
 fn put_native(tree: &[u8], rows: &[u64], j: usize, k: usize, a: usize, out: &mut [u8], o: usize)
     requires { ArgsReady tree.now rows.now j k a o 7 }
     ensures { out.new ≡ overlay out.old o (node_bytes 2 (n_native (number_at rows.now j) (args_at tree.now rows.now j k a))) }

@@ -21,8 +21,8 @@ use fields::Answer;
 use std::io::Read;
 use std::{fmt, io};
 
-// The entries that a sample may name. Each has a line in `named`, `call`, `Tallies`, `count` and `print_tallies`, and in
-// `byte_of` and `outcome` (specs/Replay.antt).
+// The entries that a sample may name. Each has a line in `named`, `call`, `Tallies`, its `new` and `count`, and `print_tallies`, and in
+// `byte_of`, `Unnamed` and `outcome` (specs/Replay.antt), `Few`, `Faultless` and `Counted` (specs/Count.antt).
 #[derive(Clone, Copy, Debug, PartialEq, Eq)]
 enum Entry {
     Climb,
@@ -110,6 +110,7 @@ fn split_number(bytes: &[u8]) -> Option<(usize, &[u8])>
     ensures { IfSome result (λ p. NumberFirst bytes.now p.0 p.1.now) }
 {
     let (number, rest) = bytes.split_first_chunk::<4>()?;
+    // Kept: `as`, since there is no `From` of a u32 for usize.
     Some((u32::from_le_bytes(*number) as usize, rest))
 }
 

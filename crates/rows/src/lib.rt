@@ -33,6 +33,7 @@ fn bind_params(tree: &[u8], rows: &mut [u64], k: usize, q: usize, a: usize)
     ensures { ((vw : View) → Seen vw tree.now rows.old k → Seen vw tree.now rows.new (k + a) × (env_of vw tree.now rows.new (k + a) ≡ params (names_of tree.now a q) (env_of vw tree.now rows.old k))) × Opened rows.old rows.new k (k + a) }
 {
     let mut p = q;
+    // Kept: how many parameters they are is known, and not where they end, which `fields` asks for.
     for i in 0..a {
         bind(tree, rows, k + i, param_kind(tree, p), p, 0);
         p = end_of(tree, p);

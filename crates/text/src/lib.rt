@@ -33,6 +33,7 @@ fn goes_on<const N: usize>(s: &[u8], later: &[(u8, u8); N]) -> Option<usize>
         .then_some(N + 1)
 }
 
+// Kept: std reads whole texts; of a character at a place of bytes that may not be UTF-8 it has no method, and the rows stand here as in specs/Utf8.
 // The length of the well-formed sequence that bytes begin with: the rows of Table 3-7.
 fn seq_len(s: &[u8]) -> Option<usize>
     ensures { result ≡ some_len (seq_len s.now) }
@@ -113,7 +114,7 @@ pub fn utf8_len(c: u32) -> usize
 }
 
 // Byte number `i` of a character in UTF-8; 0 past its last, and for a number that is no scalar value.
-// Kept: a byte, no Option: who writes a character asks for the bytes below `utf8_len` alone, and would make up a byte for None.
+// Kept: a byte, no Option: 0 past the last one is what the clause promises for every i.
 pub fn utf8_byte(c: u32, i: usize) -> u8
     ensures { result ≡ get_or (utf8 c) i 0 }
 {

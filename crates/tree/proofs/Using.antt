@@ -177,9 +177,13 @@ room_at b d e q h x = let f = first_of b d e x.0 q h x.1 in (f.room, f.fits)
 pub rest_at : (b : List ℕ) (d e q n : ℕ) → q < e → ((vs : List ℕ) × Held b d e vs q) → n ≡ end_of b q → (vs : List ℕ) × Held b d e vs n
 rest_at b d e q n h x k = let f = first_of b d e x.0 q h x.1 in (f.rest, subst (Held b d e f.rest) (sym k) f.held)
 
+-- both of what is left from q on
+abbrev pub Still : List ℕ → ℕ → ℕ → ℕ → ℕ → ℕ → Type 0
+Still b d e m p q = Counting b d e m p q × ((vs : List ℕ) × Held b d e vs q)
+
 -- fields that hold numbers stand one after the other
 held-chain : (b : List ℕ) (d e : ℕ) (vs : List ℕ) (q : ℕ) → Held b d e vs q → Chain b e q
-held-chain b d e vs q (none h) = Places.over (omega arith)
+held-chain b d e vs q (none h) = Places.over h
 held-chain b d e us q (more {v} {vs} x y w r) = Places.field y (held-chain b d e vs (end_of b q) r)
 
 pub chained : (b : List ℕ) (d e q : ℕ) → ((vs : List ℕ) × Held b d e vs q) → Chain b e q
@@ -252,6 +256,9 @@ Left b t p m = ((ms : List Module) × From b ms t.main p × (numbered_from m ms 
 pub left-start : (b : List ℕ) (t : Tree) (p : ℕ) → From b t.modules t.main p → Left b t p 0
 unfolding numbered
 left-start b t p h = inl (t.modules, h, refl)
+
+pub left-moved : (b : List ℕ) (t : Tree) {p q m n : ℕ} → p ≡ q → m ≡ n → Left b t p m → Left b t q n
+left-moved b t {p} {q} {m} {n} e k h = subst (Left b t q) k (subst (λ (i : ℕ). Left b t i m) e h)
 
 -- the module or main at p
 pub record Next (b : List ℕ) (t : Tree) (p m : ℕ) : Type 0 where

@@ -5,7 +5,7 @@ ghost use Rattle.tree.specs.Rose.{end_of};
 use std::marker::Model;
 
 // The number in the first two bytes.
-fn two(s: &[u8]) -> usize
+pub fn two(s: &[u8]) -> usize
     requires { 2 ≤ length s.now }
     ensures { (result ≡ get_or s.now 0 0 + get_or s.now 1 0 * 256) × (result < 65536) }
 {
@@ -35,6 +35,13 @@ impl<'a> Input<'a> {
             return None;
         }
         Some(Input { bytes })
+    }
+
+    // They themselves.
+    pub fn bytes(&self) -> &[u8]
+        ensures { result.now ≡ self.now }
+    {
+        self.bytes
     }
 
     pub fn len(&self) -> usize

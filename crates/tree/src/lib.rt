@@ -5,7 +5,7 @@
 
 mod input;
 mod open;
-mod places;
+pub mod places;
 mod table;
 
 ghost use Rattle.std.specs.Prelude.{◌≡◌, List, [], ℕ, ◌+◌, ◌-◌, ◌/◌, ◌%◌, ◌≤◌, ◌<◌, length, get_or, IfErr};
@@ -180,7 +180,7 @@ fn each_header(b: &Input) -> Option<Counts>
     let mut p = 0;
     let mut fields = 1;
     let mut definitions = 0;
-    // Kept: `while`, since the step is a header's or a leaf's own length.
+    // Kept: `while`, since the step is what `content` gives.
     while p < n {
         if !b.fits(p, n) {
             return None;
@@ -215,7 +215,7 @@ fn below(b: &Input, p: usize, e: usize, d: usize, m: usize) -> bool
     requires { (e ≤ length b.now) × ((vs : List ℕ) × Held b.now d e vs p) }
     ensures { (vs : List ℕ) → Held b.now d e vs p → result ≡ below m vs }
 {
-    for q in fields(b, p, e) {
+    for q in fields(b.bytes(), p, e) {
         if b.number(q + d) >= m {
             return false;
         }
@@ -251,15 +251,11 @@ fn numbered(b: &Input) -> bool
     requires { (t : Tree) × At b.now t }
     ensures { (t : Tree) → At b.now t → result ≡ numbered t }
 {
-    let mut p = modules(b);
-    let mut m = 0;
-    // Kept: `while`, since the step is each field's own length.
-    while p < b.len() {
+    let first = modules(b);
+    for (m, p) in fields(b.bytes(), first, b.len()).enumerate() {
         if !uses_ok(b, p, m) {
             return false;
         }
-        p = b.end_of(p);
-        m += 1;
     }
     true
 }
@@ -304,7 +300,7 @@ fn shallow<const N: usize>(b: &Input, counted: Counted) -> bool
 {
     let mut open = Open::<N>::new();
     let mut p = 0;
-    // Kept: `while`, since the step is a header's or a leaf's own length.
+    // Kept: `while`, since the step goes into a field's members, or past a leaf.
     while p < b.len() {
         open.pass(p);
         if counted.counts(b.byte(p)) {

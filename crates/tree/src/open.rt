@@ -5,6 +5,7 @@ ghost use Rattle.tree.specs.Nest.{pop, stack_of};
 use std::marker::Model;
 
 // At most N ends. Clauses see them, the innermost first.
+// Kept: fixed memory: an array and how much of it is in use, as there is no heap for a Vec.
 #[derive(Drop)]
 pub struct Open<const N: usize> {
     ends: [u16; N],
@@ -39,6 +40,7 @@ impl<const N: usize> Open<N> {
     pub fn pass(&mut self, p: usize)
         ensures { self.new ≡ pop p self.old }
     {
+        // Kept: ends are dropped from the top until one is behind p: a stack's own loop, with no index of its own.
         while self.count > 0 && usize::from(self.ends[self.count - 1]) <= p {
             self.count -= 1;
         }
@@ -49,6 +51,7 @@ impl<const N: usize> Open<N> {
         requires { (length self.old < N) × (end < 65536) }
         ensures { self.new ≡ end ∷ self.old }
     {
+        // Kept: `as`, of a number that the clause says fits.
         self.ends[self.count] = end as u16;
         self.count += 1;
     }

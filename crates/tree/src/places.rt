@@ -1,28 +1,39 @@
 // The fields that stand one after the other, each where the one before it ends.
-ghost use Rattle.std.specs.Prelude.{◌≡◌};
+ghost use Rattle.std.specs.Prelude.{◌≡◌, List, ℕ, ◌≤◌, length};
+ghost use Rattle.tree.specs.Rose.{end_of};
 
-use crate::input::Input;
+use crate::input::two;
 
-// The places of those from `at` up to `end`.
+// The place after the field at p.
+#[inline]
+pub fn end_of(b: &[u8], p: usize) -> usize
+    requires { end_of b.now p ≤ length b.now }
+    ensures { result ≡ end_of b.now p }
+{
+    p + 3 + two(&b[p + 1..])
+}
+
+// The places of the fields that stand from `at` up to `end`, each where the one before it ends.
 #[derive(Clone, Copy)]
-pub struct Places<'a, 'b> {
-    pub input: &'a Input<'b>,
+pub struct Places<'a> {
+    pub tree: &'a [u8],
     pub at: usize,
     pub end: usize,
 }
 
-// The fields from p up to e.
-pub fn fields<'a, 'b>(input: &'a Input<'b>, p: usize, e: usize) -> Places<'a, 'b>
-    ensures { (result.input.now ≡ input.now) × (result.at ≡ p) × (result.end ≡ e) }
+// The fields from q up to z.
+#[inline]
+pub fn fields(b: &[u8], q: usize, z: usize) -> Places<'_>
+    ensures { (result.tree.now ≡ b.now) × (result.at ≡ q) × (result.end ≡ z) }
 {
     Places {
-        input,
-        at: p,
-        end: e,
+        tree: b,
+        at: q,
+        end: z,
     }
 }
 
-impl<'a, 'b> Iterator for Places<'a, 'b> {
+impl<'a> Iterator for Places<'a> {
     ghost use Rattle.tree.specs.Places.{Stand, GivesField, fields_left};
 
     type Item = usize;
@@ -37,7 +48,7 @@ impl<'a, 'b> Iterator for Places<'a, 'b> {
     fn next(&mut self) -> Option<usize> {
         let p = self.at;
         if p < self.end {
-            self.at = self.input.end_of(p);
+            self.at = end_of(self.tree, p);
             return Some(p);
         }
         None

@@ -119,7 +119,7 @@ impl Item {
 pub fn class_of(k: u8) -> u8
     ensures { (result ≡ class k) × (0 < result) }
 {
-    CLASSES[k as usize]
+    CLASSES[usize::from(k)]
 }
 
 // The kind of leaf that has this number in the table.
@@ -140,9 +140,9 @@ fn leaf_of(s: u8) -> Leaf
 pub fn shape_of(k: u8) -> Shape
     ensures { IsShape result (shape k) }
 {
-    let s = SHAPES[k as usize];
+    let s = SHAPES[usize::from(k)];
     if s < 200 {
-        return Shape::Row(s as usize);
+        return Shape::Row(usize::from(s));
     }
     Shape::Bytes(leaf_of(s))
 }

@@ -1,10 +1,10 @@
 -- The arguments of a call: a loop over siblings, each with a note of its number. What is still due is stated by the arguments that are left: whatever the rules
 -- give for them, they give for all. Assumes nothing.
-use Rattle.std.specs.Prelude.{ℕ, suc, ◌+◌, ◌-◌, ◌*◌, ◌≤◌, ◌<◌, ◌≡◌, refl, List, ◌∷◌, length, take}
+use Rattle.std.specs.Prelude.{ℕ, suc, ◌+◌, ◌-◌, ◌*◌, ◌≤◌, ◌<◌, ◌^◌, ◌≡◌, refl, List, ◌∷◌, length, take}
 use Rattle.std.proofs.Common.{arith, sym, ap, ap₂, subst, ◌∙◌}
 use Rattle.tree.specs.Rose.{rnil, end_of, Row, row-le}
 use Rattle.tree.specs.Tree.{Term, Terms, ts_nil, ts_cons}
-use Rattle.tree.specs.Form.{f_terms}
+use Rattle.tree.specs.Form.{f_term, f_terms}
 use Rattle.rules.specs.Tails.{empty}
 use Rattle.rules.specs.Rows.{Env}
 use Rattle.rules.specs.Filters.{Top}
@@ -14,7 +14,7 @@ use Rattle.puts.specs.declared.state.State.{State}
 use Rattle.puts.specs.State.{num, Put}
 use Rattle.puts.specs.Rooms.{put-none, put_then}
 use Rattle.reads.specs.Bytes.{TermAt}
-use Rattle.reads.specs.Shapes.{on-arity-cons, on-arity-nil, term_fits}
+use Rattle.reads.specs.Shapes.{on-arity-cons, on-arity-nil, term_fits, head-fits}
 use Rattle.cells.specs.Cells.{View, Seen, env_of, noted, number_at}
 use Rattle.cells.specs.Notes.{numbers_of}
 use Rattle.rows.specs.Kept.{below_at, seen-kept}
@@ -223,3 +223,73 @@ module _ (b : List ℕ) (q a : ℕ) (s₀ : List ℕ) (k : ℕ) (st₀ : State) 
           (λ rest. (ArgsIs vw.top (env_of vw b s₀ k) (num st) rest (k + i) s st st d d → ArgsIs vw.top (env_of vw b s₀ k) (num st₀) ts k s st₀ st d₀ d) → ArgsIs vw.top (env_of vw b s₀ k) (num st₀) ts k s st₀ st d₀ d)
           (λ _ f. f (args_none vw.top (env_of vw b s₀ k) (num st) (k + i) s st d)) w.rest (omega (arith, w.left, l)) w.at (w.goes s st d refl) in
           (I.put, subst (λ (x : ℕ). numbers_of s k x ≡ (args vw.top ts (env_of vw b s₀ k) (num st₀)).made) ea I.made)
+
+-- ---- up to z: the row of the next one's note is i
+
+abbrev pub ArgsAt : List ℕ → ℕ → ℕ → ℕ → Type 0
+ArgsAt b q z a = (ts : Terms) × Row b (f_terms ts rnil) q z × (arity ts ≡ a)
+
+pub record PassingTo (b : List ℕ) (q z : ℕ) (s₀ : List ℕ) (k : ℕ) (st₀ : State) (d₀ : List ℕ) (p i : ℕ) (s : List ℕ) (st : State) (d : List ℕ) : Type 0 where
+  pub past : ℕ
+  pub row : i ≡ k + past
+  pub goes : (a : ℕ) → ArgsAt b q z a → Passing b q a s₀ k st₀ d₀ p past s st d
+
+pub args-start : (b : List ℕ) (q z : ℕ) (s : List ℕ) (k : ℕ) (st : State) (d : List ℕ) → Ready b s k q z st → PassingTo b q z s k st d q k s st d
+args-start b q z s k st d y = record { past = 0; row = omega arith; goes = λ a g. passing-start b q a s k st d (z, y, g) }
+
+-- p is where the next one stands
+pub args-on : (b : List ℕ) (q z : ℕ) (s₀ : List ℕ) (k : ℕ) (st₀ : State) (d₀ : List ℕ) (n p i : ℕ) (s : List ℕ) (st : State) (d : List ℕ) → n ≡ p → PassingTo b q z s₀ k st₀ d₀ n i s st d → PassingTo b q z s₀ k st₀ d₀ p i s st d
+args-on b q z s₀ k st₀ d₀ n p i s st d e g = subst (λ (r : ℕ). PassingTo b q z s₀ k st₀ d₀ r i s st d) e g
+
+-- one is left where p is before the end, and none where it is not
+some-left : (b : List ℕ) (p z i a : ℕ) (rest : Terms) → Row b (f_terms rest rnil) p z → i + arity rest ≡ a → p < z → i < a
+unfolding f_terms Row
+some-left b p z i a ts_nil r e l = absurd (omega (arith, r, l))
+some-left b p z i a (ts_cons t ts) r e l = omega (arith, e)
+
+none-left : (b : List ℕ) (p z i a : ℕ) (rest : Terms) → Row b (f_terms rest rnil) p z → i + arity rest ≡ a → z ≤ p → a ≤ i
+unfolding f_terms
+none-left b p z i a ts_nil r e l = omega (arith, e)
+none-left b p z i a (ts_cons t ts) r e l = absurd (omega (arith, (head-fits b (f_term t) (f_terms ts rnil) p z r).1, l))
+
+module _ (b : List ℕ) (q z : ℕ) (s₀ : List ℕ) (k : ℕ) (st₀ : State) (d₀ : List ℕ) (p i : ℕ) (s : List ℕ) (st : State) (d : List ℕ) (o : PassingTo b q z s₀ k st₀ d₀ p i s st d) where
+  less : p < z → (a : ℕ) → ArgsAt b q z a → o.past < a
+  less l a g = let w = (o.goes a g).ends g.0 z g.1 g.2 in some-left b p z o.past a w.0 w.1 w.2 l
+
+  pub args-done : z ≤ p → (a : ℕ) → ArgsAt b q z a → Passed b q a s₀ s k st₀ st d₀ d
+  args-done l a g =
+      let w = (o.goes a g).ends g.0 z g.1 g.2 in
+      passing-done b q a s₀ k st₀ d₀ p o.past s st d (o.goes a g) (none-left b p z o.past a w.0 w.1 w.2 l)
+
+  module _ (h : (ts : Terms) × Row b (f_terms ts rnil) q z) where
+    all : ArgsAt b q z (arity h.0)
+    all = (h.0, h.1, refl)
+
+    now : Passing b q (arity h.0) s₀ k st₀ d₀ p o.past s st d
+    now = o.goes (arity h.0) all
+
+    pub args-few : i + 1 < 2 ^ 64
+    args-few = omega (arith, o.row, now.some.1.spare, now.some.1.seen.small)
+
+    module _ (l : p < z) where
+      pub args-ready : (q ≤ p) × (end_of b p ≤ length b) × Ready b s i p (end_of b p) st × Stands b p
+      args-ready =
+          let w = passing-ready b q (arity h.0) s₀ k st₀ d₀ p o.past s st d now (less l (arity h.0) all) in
+          (omega (arith, now.low), passing-fits b q (arity h.0) s₀ k st₀ d₀ p o.past s st d now (less l (arity h.0) all), subst (λ (x : ℕ). Ready b s x p (end_of b p) st) (sym o.row) w.0, w.1)
+
+      module _ (s₁ : List ℕ) (st₁ : State) (d₁ : List ℕ) (r : ℕ) (m : Laid b p s s₁ i st st₁ d d₁ 0 r) where
+        laid : Laid b p s s₁ (k + o.past) st st₁ d d₁ 0 r
+        laid = subst (λ (x : ℕ). Laid b p s s₁ x st st₁ d d₁ 0 r) o.row m
+
+        pub args-note : (n : ℕ) → n ≡ num st → (4 * i + 4 ≤ length s₁) × (n < 65536)
+        args-note n e =
+            let w = passing-note b q (arity h.0) s₀ k st₀ d₀ p o.past s st d now s₁ st₁ d₁ r laid (less l (arity h.0) all) n e in
+            (omega (arith, o.row, w.0), w.1)
+
+        pub args-more : (n : ℕ) → n ≡ num st → (s₂ : List ℕ) → s₂ ≡ noted s₁ i 6 n 0 → (p' : ℕ) → p' ≡ end_of b p → PassingTo b q z s₀ k st₀ d₀ p' (i + 1) s₂ st₁ d₁
+        args-more n en s₂ es p' ep =
+            record {
+              past = o.past + 1;
+              row = omega (arith, o.row);
+              goes = λ a g. passing-more b q a s₀ k st₀ d₀ p o.past s st d (o.goes a g) s₁ st₁ d₁ r laid (less l a g) n en s₂ (es ∙ ap (λ (x : ℕ). noted s₁ x 6 n 0) o.row) p' ep;
+            }

@@ -196,9 +196,9 @@ call_known b p q a e g f h = on_call b p (λ _. Called b p q a) e go g.0 g.1
         record { fits = n.fits; low = omega (arith, f); high = c.1; args = (ts, r, sym (terms-many ts) ∙ sym c.0) }
 
 -- every call that stands there
-call-args : (b : List ℕ) (p q a : ℕ) → q ≡ end_of b (p + 3) → ((rs : Roses) → Row b rs q (end_of b p) → (a ≡ many rs) × (q + 3 * a ≤ end_of b p))
+args-all : (b : List ℕ) (p q a : ℕ) → q ≡ end_of b (p + 3) → ((rs : Roses) → Row b rs q (end_of b p) → (a ≡ many rs) × (q + 3 * a ≤ end_of b p))
     → (ts : Terms) → CallAt b p ts → Row b (f_terms ts rnil) q (end_of b p) × (arity ts ≡ a)
-call-args b p q a f h ts n =
+args-all b p q a f h ts n =
     let r : Row b (f_terms ts rnil) q (end_of b p) = subst (λ (i : ℕ). Row b (f_terms ts rnil) i (end_of b p)) (sym f) n.args in
     (r, sym (terms-many ts) ∙ sym (h (f_terms ts rnil) r).0)
 
@@ -207,10 +207,16 @@ call-reserve b s k p q a o w f st c y h ew =
     let n : o ≤ late = placed-within o (off st) h (omega (arith, y.offs)) in omega (arith, n, ew, width_few f.kind a, c.high, c.fits, y.small)
 
 -- the arguments
-pub call-ready : (b s : List ℕ) (k p q a o w : ℕ) (f : Hit.Found) (st st₁ : State) → Called b p q a → Ready b s k (p + 1) (end_of b p) st → w ≡ call_width f.kind a → st₁ ≡ with_off st (start_of o (off st) w)
-    → (z : ℕ) × Ready b s k q z st₁ × ((ts : Terms) × Row b (f_terms ts rnil) q z × (arity ts ≡ a))
-call-ready b s k p q a o w f st st₁ c y ew e =
-    (end_of b p, ready-start b s k (p + 1) q (end_of b p) (end_of b p) o w st st₁ y (omega (arith, c.low)) (omega (arith, c.high)) (omega arith) (omega (arith, ew, width_few f.kind a, c.high, c.fits, y.small)) e, c.args)
+pub call-args : (b : List ℕ) (p q z a : ℕ) → z ≡ end_of b p → Called b p q a → (ts : Terms) × Row b (f_terms ts rnil) q z × (arity ts ≡ a)
+call-args b p q z a e c = (c.args.0, subst (λ (i : ℕ). Row b (f_terms c.args.0 rnil) q i) (sym e) c.args.1, c.args.2)
+
+pub call-ready : (b s : List ℕ) (k p q z a o w : ℕ) (f : Hit.Found) (st st₁ : State) → z ≡ end_of b p → Called b p q a → Ready b s k (p + 1) (end_of b p) st → w ≡ call_width f.kind a → st₁ ≡ with_off st (start_of o (off st) w)
+    → Ready b s k q z st₁ × ((ts : Terms) × Row b (f_terms ts rnil) q z)
+call-ready b s k p q z a o w f st st₁ ez c y ew e =
+    let h = call-args b p q z a ez c in (
+      subst (λ (i : ℕ). Ready b s k q i st₁) (sym ez) (ready-start b s k (p + 1) q (end_of b p) (end_of b p) o w st st₁ y (omega (arith, c.low)) (omega (arith, c.high)) (omega arith) (omega (arith, ew, width_few f.kind a, c.high, c.fits, y.small)) e),
+      (h.0, h.1),
+    )
 
 -- behind them
 module _ (b s s' : List ℕ) (k p q a o w : ℕ) (f : Hit.Found) (st st₁ st₂ : State) (d d₁ : List ℕ) (c : Called b p q a) (y : Ready b s k (p + 1) (end_of b p) st) (ew : w ≡ call_width f.kind a)
@@ -311,7 +317,7 @@ call-did b p s s' k o q a w v r x f st st₁ st₂ st₃ st₄ d d₁ d₂ d₃ 
       where
         go : (ts : Terms) → CallAt b p ts → common.Made b p (term vw.top (t_call p (name_at b (p + 3)) ts) (env_of vw b s k) (num st) al) o st st₄ d d₃ r
         go ts z =
-            let w' = call-args b p q a eq h ts z in
+            let w' = args-all b p q a eq h ts z in
             let G : Made (List ℕ) = args vw.top ts (env_of vw b s k) (num st) in
             subst (λ (n : ℕ). common.Made b p (called vw.top p (text_of b (p + 3)) (p + 3 + 3) n G (env_of vw b s k) al) o st st₄ d d₃ r) (sym w'.1)
             (subst (λ (n : ℕ). common.Made b p (called vw.top p (text_of b (p + 3)) n a G (env_of vw b s k) al) o st st₄ d d₃ r) at-eq

@@ -1,5 +1,5 @@
 use Prim.Native.Nat.{ℕ, ◌+◌, ◌-◌, ◌≤◌, ◌<◌}
-use Rattle.compiler.specs.FormsD.Args.{passing-start, passing-fits, passing-ready, passing-note, passing-more, passing-done}
+use Rattle.compiler.specs.FormsD.Args.{args-start, args-on, args-few, args-ready, args-note, args-more, args-done}
 use lib.ListN.{length}
 use mathlib.Core.Path.{◌≡◌, refl, sym, subst, ◌∙◌}
 use native.Mathlib.Omega.{arith}
@@ -27,7 +27,7 @@ use Prim.Native.Nat.{ℕ, ◌-◌}
 use mathlib.Core.Path.{sym, ◌∙◌}
 use Rattle.finds.specs.Numbers.{numbers}
 use Rattle.compiler.specs.FormsC.Paths as forms_paths
-use Rattle.compiler.specs.FormsD.Calls.{membered, call-here, call-members, call-name, call-short, call_known, call-reserve, call-ready, call-fail, call-place, call-put, call-did}
+use Rattle.compiler.specs.FormsD.Calls.{membered, call-here, call-members, call-name, call-short, call_known, call-reserve, call-args, call-ready, call-fail, call-place, call-put, call-did}
 use Rattle.compiler.specs.FormsD.Defs.{ready-cells, grown, def-ready, def_body, def-within, further, def-close, def-did}
 use Rattle.compiler.specs.FormsD.Defs.{ready-cells, scoping-start, scoping-fits, scoping-ready, scoping-more, scoping-done}
 use Rattle.compiler.specs.FormsC.Objects as forms_objects
@@ -46,32 +46,46 @@ use Rattle.compiler.specs.FormsC.Quoted as forms_quoted
 use Prim.Native.Nat.{ℕ, ◌<◌, ◌+◌, ◌-◌}
 use Rattle.compiler.specs.FormsC.Strings as forms_strings
 use Rattle.rows.specs.Opened as opened
+use Rattle.compiler.proofs.Compiler.+compiling.Goals.{string-then-tag-via-then-tag, string-then-tag-via-else-tag+then-tag-2}
 use Rattle.compiler.proofs.Compiler.+compiling.Goals as goal
 
-pub args-loop-i-init : goal.args-loop-i-init
-args-loop-i-init t c = (record { rows = refl; out = refl }, passing-start _ _ _ _ _ _ _ c.requires)
-
-pub args-overflow_add-k : goal.args-overflow_add-k
-args-overflow_add-k t c = let o = c.loop-i.invariant.1 in omega (arith, o.some.1.spare, o.some.1.seen.small)
+pub args-loop-p-init : goal.args-loop-p-init
+args-loop-p-init t c =
+    let b = c.args.tree.now in
+    let y = c.requires.0 in
+    let g = c.requires.1 in
+    let i = begun b c.args.q c.args.z _ c.into_iter-p-iterator.result c.into_iter-p-iterator.ensures.into_iter_gives c.fields-p-items.ensures y.within (_, g.1) in
+    (i.0, i.1, record { rows = refl; out = refl }, args-on _ _ _ _ _ _ _ _ _ _ _ _ _ i.2 (args-start b _ _ _ _ _ _ y))
 
 pub args-iterm-requires : goal.args-iterm-requires
-args-iterm-requires t c = let o = c.loop-i.invariant.1 in
-    (omega (arith, c.decreases, o.low, passing-fits _ _ _ _ _ _ _ _ _ _ _ _ o c.loop-i-test.true), passing-ready _ _ _ _ _ _ _ _ _ _ _ _ o c.loop-i-test.true)
-
-pub args-overflow_add-k-in-loop-i : goal.args-overflow_add-k-in-loop-i
-args-overflow_add-k-in-loop-i t c = let o = c.loop-i.invariant.1 in omega (arith, o.some.1.spare, o.some.1.seen.small)
+args-iterm-requires t c =
+    let n = turn c.loop-p.p-iterator c.next.new.self c.loop-p.invariant.1 c.in-Some.ensures.steps c.in-Some.ensures.goes.keeps in
+    let v = args-on _ _ _ _ _ _ _ _ _ _ _ _ _ n.here c.loop-p.invariant.3 in
+    let w = args-ready _ _ _ _ _ _ _ _ _ _ _ _ v c.requires.1 n.within in
+    (omega (arith, c.decreases, w.0, w.1), (w.2, w.3))
 
 pub args-note-requires : goal.args-note-requires
-args-note-requires t c = let w = passing-note _ _ _ _ _ _ _ _ _ _ _ _ c.loop-i.invariant.1 _ _ _ _ c.iterm.ensures.is c.loop-i-test.true _ refl in (w.0, w.1)
+args-note-requires t c =
+    let n = turn c.loop-p.p-iterator c.next.new.self c.loop-p.invariant.1 c.in-Some.ensures.steps c.in-Some.ensures.goes.keeps in
+    let v = args-on _ _ _ _ _ _ _ _ _ _ _ _ _ n.here c.loop-p.invariant.3 in
+    args-note _ _ _ _ _ _ _ _ _ _ _ _ v c.requires.1 n.within _ _ _ _ c.iterm.ensures.is _ refl
 
-pub args-end_of-p-requires : goal.args-end_of-p-requires
-args-end_of-p-requires t c = passing-fits _ _ _ _ _ _ _ _ _ _ _ _ c.loop-i.invariant.1 c.loop-i-test.true
+pub args-overflow_add-i : goal.args-overflow_add-i
+args-overflow_add-i t c =
+    let n = turn c.loop-p.p-iterator c.next.new.self c.loop-p.invariant.1 c.in-Some.ensures.steps c.in-Some.ensures.goes.keeps in
+    let v = args-on _ _ _ _ _ _ _ _ _ _ _ _ _ n.here c.loop-p.invariant.3 in
+    omega (arith, args-few _ _ _ _ _ _ _ _ _ _ _ _ v c.requires.1)
 
-pub args-loop-i-preserved : goal.args-loop-i-preserved
-args-loop-i-preserved t c = (record { rows = c.iterm.ensures.same.rows ∙ c.loop-i.invariant.0.rows; out = c.iterm.ensures.same.out ∙ c.loop-i.invariant.0.out }, passing-more _ _ _ _ _ _ _ _ _ _ _ _ c.loop-i.invariant.1 _ _ _ _ c.iterm.ensures.is c.loop-i-test.true _ refl _ c.note.ensures _ c.end_of-p.ensures)
+pub args-loop-p-preserved : goal.args-loop-p-preserved
+args-loop-p-preserved t c =
+    let n = turn c.loop-p.p-iterator c.next.new.self c.loop-p.invariant.1 c.in-Some.ensures.steps c.in-Some.ensures.goes.keeps in
+    let v = args-on _ _ _ _ _ _ _ _ _ _ _ _ _ n.here c.loop-p.invariant.3 in
+    (c.in-Some.ensures.goes.keeps, n.over, record { rows = c.iterm.ensures.same.rows ∙ c.loop-p.invariant.2.rows; out = c.iterm.ensures.same.out ∙ c.loop-p.invariant.2.out }, args-more _ _ _ _ _ _ _ _ _ _ _ _ v c.requires.1 n.within _ _ _ _ c.iterm.ensures.is _ refl _ c.note.ensures _ n.next)
 
 pub args-returns-clause-is : goal.args-returns-clause-is
-args-returns-clause-is t c = passing-done _ _ _ _ _ _ _ _ _ _ _ _ c.loop-i.invariant.1 c.loop-i-test.false
+args-returns-clause-is t c =
+    let l = turned c.loop-p.p-iterator c.next.new.self c.loop-p.invariant.1 c.in-None.ensures.steps in
+    args-done _ _ _ _ _ _ _ _ _ _ _ _ c.loop-p.invariant.3 l
 
 pub arr-reserve-requires : goal.arr-reserve-requires
 arr-reserve-requires t c =
@@ -270,8 +284,8 @@ bound-returns-then-is_tag-clause-is t c =
     let g = c.requires.1 in
     forms_paths.bound-is b _ _ _ _ _ _ _ _ _ _ _ g (sym c.is_tag.ensures ∙ c.if-is_tag.true) c.iterm.ensures.is
 
-pub bound-returns-clause-is : goal.bound-returns-clause-is
-bound-returns-clause-is t c =
+pub bound-returns-else-is_tag-clause-is : goal.bound-returns-else-is_tag-clause-is
+bound-returns-else-is_tag-clause-is t c =
     let b = c.args.tree.now in
     forms_paths.bound-none b _ _ _ _ _ _ _ (sym c.is_tag.ensures ∙ c.if-is_tag.false)
 
@@ -281,30 +295,30 @@ call-overflow_add-p t c = let y = c.requires.0 in omega (arith, y.small, y.withi
 pub call-end_of-q-requires : goal.call-end_of-q-requires
 call-end_of-q-requires t c = (call-here _ _ c.requires.3 c.requires.1).1
 
-pub call-end_of-requires : goal.call-end_of-requires
-call-end_of-requires t c = (call-here _ _ c.requires.3 c.requires.1).0
+pub call-end_of-z-requires : goal.call-end_of-z-requires
+call-end_of-z-requires t c = (call-here _ _ c.requires.3 c.requires.1).0
 
 pub call-members-a-requires : goal.call-members-a-requires
-call-members-a-requires t c = call-members _ _ _ _ c.requires.3 c.requires.1 c.end_of-q.ensures c.end_of.ensures
+call-members-a-requires t c = call-members _ _ _ _ c.requires.3 c.requires.1 c.end_of-q.ensures c.end_of-z.ensures
 
 pub call-overflow_add-p-2 : goal.call-overflow_add-p-2
 call-overflow_add-p-2 t c = let y = c.requires.0 in omega (arith, y.small, y.within, y.order)
 
 pub call-slice_bounds-meaning-count : goal.call-slice_bounds-meaning-count
 call-slice_bounds-meaning-count t c = let y = c.requires.0 in
-    let h = membered _ _ _ _ _ c.end_of.ensures c.members-a.ensures in
+    let h = membered _ _ _ _ _ c.end_of-z.ensures c.members-a.ensures in
     let k = call_known _ _ _ _ c.requires.3 c.requires.1 c.end_of-q.ensures h in
     omega (arith, k.low)
 
 pub call-slice_bounds-meaning-start : goal.call-slice_bounds-meaning-start
 call-slice_bounds-meaning-start t c = let y = c.requires.0 in
-    let h = membered _ _ _ _ _ c.end_of.ensures c.members-a.ensures in
+    let h = membered _ _ _ _ _ c.end_of-z.ensures c.members-a.ensures in
     let k = call_known _ _ _ _ c.requires.3 c.requires.1 c.end_of-q.ensures h in
     omega (arith, k.low, k.high, k.fits)
 
 pub call-slice_bounds-meaning-end : goal.call-slice_bounds-meaning-end
 call-slice_bounds-meaning-end t c = let y = c.requires.0 in
-    let h = membered _ _ _ _ _ c.end_of.ensures c.members-a.ensures in
+    let h = membered _ _ _ _ _ c.end_of-z.ensures c.members-a.ensures in
     let k = call_known _ _ _ _ c.requires.3 c.requires.1 c.end_of-q.ensures h in
     omega (arith, k.low, k.high, k.fits)
 
@@ -313,51 +327,51 @@ call-overflow_add-p-3 t c = let y = c.requires.0 in omega (arith, y.small, y.wit
 
 pub call-meaning-f-requires : goal.call-meaning-f-requires
 call-meaning-f-requires t c = let y = c.requires.0 in
-    let h = membered _ _ _ _ _ c.end_of.ensures c.members-a.ensures in
+    let h = membered _ _ _ _ _ c.end_of-z.ensures c.members-a.ensures in
     let k = call_known _ _ _ _ c.requires.3 c.requires.1 c.end_of-q.ensures h in
     ((y.view, y.seen), call-short c.args.tree.now (c.end_of-q.result - (c.args.p + 6)) (c.args.p + 6) y.small, omega (arith, y.small, y.within, y.order), omega (arith, k.high, k.fits, y.small))
 
 pub call-call_width-w-requires : goal.call-call_width-w-requires
 call-call_width-w-requires t c = let y = c.requires.0 in
-    let h = membered _ _ _ _ _ c.end_of.ensures c.members-a.ensures in
+    let h = membered _ _ _ _ _ c.end_of-z.ensures c.members-a.ensures in
     let k = call_known _ _ _ _ c.requires.3 c.requires.1 c.end_of-q.ensures h in
     omega (arith, k.high, k.fits, y.small)
 
 pub call-reserve-requires : goal.call-reserve-requires
 call-reserve-requires t c = let y = c.requires.0 in
-    let h = membered _ _ _ _ _ c.end_of.ensures c.members-a.ensures in
+    let h = membered _ _ _ _ _ c.end_of-z.ensures c.members-a.ensures in
     let k = call_known _ _ _ _ c.requires.3 c.requires.1 c.end_of-q.ensures h in
     call-reserve _ _ _ _ _ _ _ _ (numbers c.meaning-f.result) _ k y (due-placed c.args.o c.args.self.now.st c.requires.2) c.call_width-w.ensures
 
 pub call-args-requires : goal.call-args-requires
 call-args-requires t c = let y = c.requires.0 in
-    let h = membered _ _ _ _ _ c.end_of.ensures c.members-a.ensures in
+    let h = membered _ _ _ _ _ c.end_of-z.ensures c.members-a.ensures in
     let k = call_known _ _ _ _ c.requires.3 c.requires.1 c.end_of-q.ensures h in
-    (omega (arith, c.decreases, k.low, k.high, k.fits), call-ready _ _ _ _ _ _ _ _ (numbers c.meaning-f.result) _ _ k y c.call_width-w.ensures (reserve-of c.args.o _ c.args.self.now.st _ (ready-low _ _ _ _ _ _ c.requires.0) c.reserve.ensures))
+    (omega (arith, c.decreases, k.low, k.high, k.fits), call-ready _ _ _ _ _ _ _ _ _ (numbers c.meaning-f.result) _ _ c.end_of-z.ensures k y c.call_width-w.ensures (reserve-of c.args.o _ c.args.self.now.st _ (ready-low _ _ _ _ _ _ c.requires.0) c.reserve.ensures))
 
 pub call-fail-requires : goal.call-fail-requires
 call-fail-requires t c = let y = c.requires.0 in
-    let h = membered _ _ _ _ _ c.end_of.ensures c.members-a.ensures in
+    let h = membered _ _ _ _ _ c.end_of-z.ensures c.members-a.ensures in
     let k = call_known _ _ _ _ c.requires.3 c.requires.1 c.end_of-q.ensures h in
-    call-fail _ _ _ _ _ _ _ _ _ (numbers c.meaning-f.result) _ _ _ _ _ k y c.call_width-w.ensures (reserve-of c.args.o _ c.args.self.now.st _ (ready-low _ _ _ _ _ _ c.requires.0) c.reserve.ensures) c.args-2.ensures.is
+    call-fail _ _ _ _ _ _ _ _ _ (numbers c.meaning-f.result) _ _ _ _ _ k y c.call_width-w.ensures (reserve-of c.args.o _ c.args.self.now.st _ (ready-low _ _ _ _ _ _ c.requires.0) c.reserve.ensures) (c.args-2.ensures.is _ (call-args _ _ _ _ _ c.end_of-z.ensures k))
 
 pub call-place-requires : goal.call-place-requires
 call-place-requires t c = let y = c.requires.0 in
-    let h = membered _ _ _ _ _ c.end_of.ensures c.members-a.ensures in
+    let h = membered _ _ _ _ _ c.end_of-z.ensures c.members-a.ensures in
     let k = call_known _ _ _ _ c.requires.3 c.requires.1 c.end_of-q.ensures h in
-    call-place _ _ _ _ _ _ _ _ _ _ _ _ _ _ _ k y c.call_width-w.ensures (reserve-of c.args.o _ c.args.self.now.st _ (ready-low _ _ _ _ _ _ c.requires.0) c.reserve.ensures) c.args-2.ensures.is _ _ c.fail.ensures
+    call-place _ _ _ _ _ _ _ _ _ _ _ _ _ _ _ k y c.call_width-w.ensures (reserve-of c.args.o _ c.args.self.now.st _ (ready-low _ _ _ _ _ _ c.requires.0) c.reserve.ensures) (c.args-2.ensures.is _ (call-args _ _ _ _ _ c.end_of-z.ensures k)) _ _ c.fail.ensures
 
 pub call-put_call-requires : goal.call-put_call-requires
 call-put_call-requires t c = let y = c.requires.0 in
-    let h = membered _ _ _ _ _ c.end_of.ensures c.members-a.ensures in
+    let h = membered _ _ _ _ _ c.end_of-z.ensures c.members-a.ensures in
     let k = call_known _ _ _ _ c.requires.3 c.requires.1 c.end_of-q.ensures h in
-    call-put _ _ _ _ _ _ _ _ _ _ _ _ _ _ _ k y c.call_width-w.ensures (reserve-of c.args.o _ c.args.self.now.st _ (ready-low _ _ _ _ _ _ c.requires.0) c.reserve.ensures) c.args-2.ensures.is _ _ c.fail.ensures _ _ c.meaning-f.ensures (due-placed c.args.o c.args.self.now.st c.requires.2) _ (place-spot c.args.o _ _ c.args.self.now.st c.requires.2 (ready-low _ _ _ _ _ _ c.requires.0) c.place.ensures.0)
+    call-put _ _ _ _ _ _ _ _ _ _ _ _ _ _ _ k y c.call_width-w.ensures (reserve-of c.args.o _ c.args.self.now.st _ (ready-low _ _ _ _ _ _ c.requires.0) c.reserve.ensures) (c.args-2.ensures.is _ (call-args _ _ _ _ _ c.end_of-z.ensures k)) _ _ c.fail.ensures _ _ c.meaning-f.ensures (due-placed c.args.o c.args.self.now.st c.requires.2) _ (place-spot c.args.o _ _ c.args.self.now.st c.requires.2 (ready-low _ _ _ _ _ _ c.requires.0) c.place.ensures.0)
 
 pub call-returns-clause-is : goal.call-returns-clause-is
 call-returns-clause-is t c = let y = c.requires.0 in
-    let h = membered _ _ _ _ _ c.end_of.ensures c.members-a.ensures in
+    let h = membered _ _ _ _ _ c.end_of-z.ensures c.members-a.ensures in
     let k = call_known _ _ _ _ c.requires.3 c.requires.1 c.end_of-q.ensures h in
-    call-did _ _ _ _ _ _ _ _ _ _ _ _ _ _ _ _ _ _ _ _ _ _ _ c.requires.3 y c.requires.1 c.end_of-q.ensures h (call-name _ _ _ c.end_of-q.ensures) c.meaning-f.ensures c.call_width-w.ensures (reserve-of c.args.o _ c.args.self.now.st _ (ready-low _ _ _ _ _ _ c.requires.0) c.reserve.ensures) c.args-2.ensures.is c.fail.ensures (place-spot c.args.o _ _ c.args.self.now.st c.requires.2 (ready-low _ _ _ _ _ _ c.requires.0) c.place.ensures.0) (place-next c.args.o _ c.args.self.now.st _ _ c.requires.2 (ready-low _ _ _ _ _ _ c.requires.0) c.place.ensures.1) c.put_call.ensures
+    call-did _ _ _ _ _ _ _ _ _ _ _ _ _ _ _ _ _ _ _ _ _ _ _ c.requires.3 y c.requires.1 c.end_of-q.ensures h (call-name _ _ _ c.end_of-q.ensures) c.meaning-f.ensures c.call_width-w.ensures (reserve-of c.args.o _ c.args.self.now.st _ (ready-low _ _ _ _ _ _ c.requires.0) c.reserve.ensures) (c.args-2.ensures.is _ (call-args _ _ _ _ _ c.end_of-z.ensures k)) c.fail.ensures (place-spot c.args.o _ _ c.args.self.now.st c.requires.2 (ready-low _ _ _ _ _ _ c.requires.0) c.place.ensures.0) (place-next c.args.o _ c.args.self.now.st _ _ c.requires.2 (ready-low _ _ _ _ _ _ c.requires.0) c.place.ensures.1) c.put_call.ensures
 
 pub def-bounds-self-1 : goal.def-bounds-self-1
 def-bounds-self-1 t c = omega (arith, (ready-cells _ _ _ _ _ _ c.requires.0).0)
@@ -450,50 +464,25 @@ entries-returns-clause-is t c =
     let v = c.loop-p.invariant.3 in
     forms_objects.entries-done b _ _ _ _ _ _ _ _ _ _ _ v l
 
+pub fold-no_fold-requires : goal.fold-no_fold-requires
+fold-no_fold-requires t c =
+    let y = c.requires.0 in
+    (omega (arith, asks_b.rows-some _ _ _ _ _ _ y), omega (arith, c.fold_of-f.ensures.source), omega (arith, y.errs))
+
 pub fold-fold_of-f-requires : goal.fold-fold_of-f-requires
 fold-fold_of-f-requires t c =
     let y = c.requires.0 in
     (c.requires.1, c.requires.3)
 
-pub fold-insert_error-requires : goal.fold-insert_error-requires
-fold-insert_error-requires t c =
-    let y = c.requires.0 in
-    omega (arith, y.errs)
-
-pub fold-bounds-self-3 : goal.fold-bounds-self-3
-fold-bounds-self-3 t c =
-    let y = c.requires.0 in
-    omega (arith, asks_b.rows-some _ _ _ _ _ _ y)
-
-pub fold-overflow_add-p : goal.fold-overflow_add-p
-fold-overflow_add-p t c =
-    let y = c.requires.0 in
-    omega (arith, y.within, y.small)
-
-pub fold-overflow_sub-f : goal.fold-overflow_sub-f
-fold-overflow_sub-f t c =
-    let y = c.requires.0 in
-    omega (arith, c.fold_of-f.ensures.source)
-
-pub fold-overflow_sub-f-then-f-lt2 : goal.fold-overflow_sub-f-then-f-lt2
-fold-overflow_sub-f-then-f-lt2 t c =
-    let y = c.requires.0 in
-    omega (arith, c.fold_of-f.ensures.source)
-
-pub fold-put_filter_error-requires : goal.fold-put_filter_error-requires
-fold-put_filter_error-requires t c =
-    let y = c.requires.0 in
-    omega (arith, y.errs, c.insert_error.ensures.0)
-
 pub fold-bare-requires : goal.fold-bare-requires
 fold-bare-requires t c =
     let y = c.requires.0 in
-    asks_b.bare-ask _ _ _ _ _ _ _ _ y (due-placed c.args.o c.args.self.now.st c.requires.2) c.insert_error.ensures.1
+    asks_b.bare-ask _ _ _ _ _ _ _ _ y (due-placed c.args.o c.args.self.now.st c.requires.2) c.no_fold.ensures.0
 
 pub fold-returns-then-f-lt2-clause-is : goal.fold-returns-then-f-lt2-clause-is
 fold-returns-then-f-lt2-clause-is t c =
     let y = c.requires.0 in
-    asks_b.fold-lost _ _ _ _ _ _ _ _ _ _ _ _ _ _ _ _ _ _ c.requires.3 y c.requires.1 c.fold_of-f.ensures c.if-f-lt2.true refl refl refl c.insert_error.ensures.0 c.insert_error.ensures.1 c.put_filter_error.ensures (bare-of c.args.o _ _ _ _ c.args.self.now.st _ _ _ _ c.requires.2 (ready-low _ _ _ _ _ _ c.requires.0) (omega (arith, y.offs, asks.error-state c.args.self.now.st _ _ c.insert_error.ensures.1)) c.bare.ensures)
+    asks_b.fold-lost _ _ _ _ _ _ _ _ _ _ _ _ _ _ _ _ _ _ c.requires.3 y c.requires.1 c.fold_of-f.ensures c.if-f-lt2.true refl refl refl refl c.no_fold.ensures.0 c.no_fold.ensures.1 (bare-of c.args.o _ _ _ _ c.args.self.now.st _ _ _ _ c.requires.2 (ready-low _ _ _ _ _ _ c.requires.0) (omega (arith, y.offs, asks.error-state c.args.self.now.st _ _ c.no_fold.ensures.0)) c.bare.ensures)
 
 pub fold-reserve-requires : goal.fold-reserve-requires
 fold-reserve-requires t c =
@@ -1950,47 +1939,17 @@ project-returns-in-Projected-clause-is t c =
     let g = c.requires.1 in
     asks_b.project-ret _ _ _ _ _ _ _ _ _ y g _ (kind-is _ _ _ c.in-Some.is c.in-Projected.is) c.end_of.ensures _ _ _ _ _ _ c.iterm.ensures.is
 
-pub project-insert_error-requires : goal.project-insert_error-requires
-project-insert_error-requires t c =
+pub project-no_fold-requires : goal.project-no_fold-requires
+project-no_fold-requires t c =
     let y = c.requires.0 in
     let g = c.requires.1 in
-    omega (arith, y.errs)
-
-pub project-bounds-self-3 : goal.project-bounds-self-3
-project-bounds-self-3 t c =
-    let y = c.requires.0 in
-    let g = c.requires.1 in
-    omega (arith, asks_b.rows-some _ _ _ _ _ _ y)
-
-pub project-overflow_add-p : goal.project-overflow_add-p
-project-overflow_add-p t c =
-    let y = c.requires.0 in
-    let g = c.requires.1 in
-    omega (arith, g.source, g.name, y.small)
-
-pub project-overflow_sub-f : goal.project-overflow_sub-f
-project-overflow_sub-f t c =
-    let y = c.requires.0 in
-    let g = c.requires.1 in
-    omega (arith, g.source)
-
-pub project-overflow_sub-f-in_default : goal.project-overflow_sub-f-in_default
-project-overflow_sub-f-in_default t c =
-    let y = c.requires.0 in
-    let g = c.requires.1 in
-    omega (arith, g.source)
-
-pub project-put_filter_error-requires : goal.project-put_filter_error-requires
-project-put_filter_error-requires t c =
-    let y = c.requires.0 in
-    let g = c.requires.1 in
-    omega (arith, y.errs, c.insert_error.ensures.0)
+    (omega (arith, asks_b.rows-some _ _ _ _ _ _ y), omega (arith, g.source), omega (arith, y.errs))
 
 pub project-returns-in_default-clause-is : goal.project-returns-in_default-clause-is
 project-returns-in_default-clause-is t c =
     let y = c.requires.0 in
     let g = c.requires.1 in
-    folds.project-fail _ _ _ _ _ _ _ _ _ y g _ _ _ _ _ _ _ _ (no-kind _ c.in_default.is) refl refl refl c.insert_error.ensures.0 c.insert_error.ensures.1 c.put_filter_error.ensures
+    folds.project-fail _ _ _ _ _ _ _ _ _ y g _ _ _ _ _ _ _ _ (no-kind _ c.in_default.is) refl refl refl refl c.no_fold.ensures.0 c.no_fold.ensures.1
 
 pub project-returns-clause-is : goal.project-returns-clause-is
 project-returns-clause-is t c =
@@ -2140,12 +2099,10 @@ string-bounds-tree-q t c =
 pub string-returns-then-tag-clause-is : goal.string-returns-then-tag-clause-is
 string-returns-then-tag-clause-is t c =
     let b = c.args.tree.now in
-    forms_strings.string-text b _ _ _ _ _ (inl c.if-tag.true)
-
-pub string-returns-then-tag-2-clause-is : goal.string-returns-then-tag-2-clause-is
-string-returns-then-tag-2-clause-is t c =
-    let b = c.args.tree.now in
-    forms_strings.string-text b _ _ _ _ _ (inr c.if-tag-2.true)
+    elim c.then-tag.branch [
+      | string-then-tag-via-then-tag w ↦ forms_strings.string-text b _ _ _ _ _ (inl w.if-tag.true)
+      | string-then-tag-via-else-tag+then-tag-2 w ↦ forms_strings.string-text b _ _ _ _ _ (inr w.if-tag-2.true)
+    ]
 
 pub string-iterm-requires : goal.string-iterm-requires
 string-iterm-requires t c =

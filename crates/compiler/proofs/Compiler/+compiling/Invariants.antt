@@ -1,7 +1,7 @@
 use Prim.Native.Nat.{◌+◌, ◌-◌, ◌*◌}
 use Rattle.reads.specs.Places.{Over}
 use Rattle.compiler.specs.Same.{Same}
-use Rattle.compiler.specs.FormsD.Args.{Passing}
+use Rattle.compiler.specs.FormsD.Args.{PassingTo}
 use lib.ListN.{length}
 use Rattle.compiler.specs.FormsA.Pairs.{Pairing}
 use Rattle.compiler.specs.FormsB.Members as mems
@@ -127,8 +127,8 @@ decreases-under l = 16 * (length l.tree.now - l.q) + 0
 abbrev pub decreases-update : goal.decreases-update
 decreases-update l = 16 * (length l.tree.now - l.p) + 1
 
-abbrev pub invariant-args-loop-i : goal.invariant-args-loop-i
-invariant-args-loop-i l = Same l.initial.self l.self × Passing l.tree l.q l.a l.initial.self.rows.now l.k l.initial.self.st l.initial.self.out.now l.p l.i l.self.rows.now l.self.st l.self.out.now
+abbrev pub invariant-args-loop-p : goal.invariant-args-loop-p
+invariant-args-loop-p l = (goal.iterator-args-loop-p).can_next l.p-iterator × Over l.tree l.z l.p-iterator × Same l.initial.self l.self × PassingTo l.tree l.q l.z l.initial.self.rows.now l.k l.initial.self.st l.initial.self.out.now l.p-iterator.at l.i l.self.rows.now l.self.st l.self.out.now
 
 abbrev pub invariant-defs-loop-p : goal.invariant-defs-loop-p
 invariant-defs-loop-p l = Same l.initial.self l.self × Scoping l.tree l.q l.initial.self.rows.now l.k l.initial.self.st l.initial.self.out.now l.allowed l.p l.i l.self.rows.now l.self.st l.self.out.now

@@ -15,10 +15,10 @@ block-returns-then-n-eq0 t c = members.block-deep _ _ _ c.args.out.now c.args.er
 pub block-returns-in_err-p : goal.block-returns-in_err-p
 block-returns-in_err-p t c =
     let p = err_from_is_err_and c.from_residual.result c.from_residual.ensures.1 in
-    rw (p.1, p.2) (members.block-stop _ _ _ _ _ c.requires.1 c.if-n-eq0.false _ _ _ c.in_err-p.ensures)
+    rw (p.1, p.2) (members.block-stop _ _ _ _ _ c.requires.1 c.if-n-eq0.false _ _ c.leave-left.ensures _ _ _ c.in_err-p.ensures)
 
 pub block-returns : goal.block-returns
-block-returns t c = members.block-done _ _ _ _ _ c.requires.1 c.if-n-eq0.false _ _ _ _ _ _ _ _ _ c.in_ok-p.ensures c.skip.ensures c.byte_at.ensures c.close-end.ensures c.enclose.ensures
+block-returns t c = members.block-done _ _ _ _ _ c.requires.1 c.if-n-eq0.false _ _ c.leave-left.ensures _ _ _ _ _ _ _ _ _ c.in_ok-p.ensures c.skip.ensures c.byte_at.ensures c.close-end.ensures c.enclose.ensures
 
 pub escape-returns-then-byte_at-eq40 : goal.escape-returns-then-byte_at-eq40
 escape-returns-then-byte_at-eq40 t c = members.escape-block _ _ _ _ _ _ _ _ c.byte_at.ensures _ c.if-byte_at-eq40.true c.block.ensures
@@ -33,15 +33,15 @@ pub str-loop-err-init : goal.str-loop-err-init
 str-loop-err-init t c = members.go _ _ _ _ _ _ (search rules)
 
 pub str-returns-then-byte_at-ne92 : goal.str-returns-then-byte_at-ne92
-str-returns-then-byte_at-ne92 t c = members.str-done _ _ _ _ _ c.requires.1 c.if-n-eq0.false _ _ _ c.loop-err.invariant _ _ c.text-q.ensures _ c.byte_at.ensures c.if-byte_at-ne92.true _ _ _ c.quote-end.ensures c.enclose.ensures
+str-returns-then-byte_at-ne92 t c = members.str-done _ _ _ _ _ c.requires.1 c.if-n-eq0.false _ _ c.leave-left.ensures _ _ _ c.loop-err.invariant _ _ c.text-q.ensures _ c.byte_at.ensures c.if-byte_at-ne92.true _ _ _ c.quote-end.ensures c.enclose.ensures
 
 pub str-returns-in_err-p : goal.str-returns-in_err-p
 str-returns-in_err-p t c =
     let p = err_from_is_err_and c.from_residual.result c.from_residual.ensures.1 in
-    rw (p.1, p.2) (members.str-stop _ _ _ _ _ c.requires.1 c.if-n-eq0.false _ _ _ c.loop-err.invariant _ _ c.text-q.ensures _ c.byte_at.ensures c.if-byte_at-ne92.false _ _ _ c.in_err-p.ensures)
+    rw (p.1, p.2) (members.str-stop _ _ _ _ _ c.requires.1 c.if-n-eq0.false _ _ c.leave-left.ensures _ _ _ c.loop-err.invariant _ _ c.text-q.ensures _ c.byte_at.ensures c.if-byte_at-ne92.false _ _ _ c.in_err-p.ensures)
 
 pub str-loop-err-preserved : goal.str-loop-err-preserved
-str-loop-err-preserved t c = members.str-more _ _ _ _ _ c.requires.1 c.if-n-eq0.false _ _ _ c.loop-err.invariant _ _ c.text-q.ensures _ c.byte_at.ensures c.if-byte_at-ne92.false _ _ _ c.in_ok-p.ensures
+str-loop-err-preserved t c = members.str-more _ _ _ _ _ c.requires.1 c.if-n-eq0.false _ _ c.leave-left.ensures _ _ _ c.loop-err.invariant _ _ c.text-q.ensures _ c.byte_at.ensures c.if-byte_at-ne92.false _ _ _ c.in_ok-p.ensures
 
 pub token-returns-in-Str : goal.token-returns-in-Str
 token-returns-in-Str t c = members.token-str _ _ _ _ _ _ _ _ c.requires.2 _ (ap tag_of c.in-Str.is) c.str.ensures

@@ -1,12 +1,22 @@
--- `space::space` meets its contract: spaces, other white space and comments, until there is none. Assumes nothing.
-use Rattle.lexer.proofs.Spacing.{on, one-blank, one-comment, no-comment}
+-- `space::space` meets its contract: the outer loop over blanks and comments, the inner one over the lines of a comment. Assumes nothing.
+use Rattle.lexer.proofs.Spacing.{on, one-blank, one-comment, no-comment, line_on, line-moves, line-off}
+use native.Mathlib.Omega.{arith}
 use Rattle.lexer.proofs.space.space.Goals as goal
 
-pub loop-at-preserved-then-n-gt0 : goal.loop-at-preserved-then-n-gt0
-loop-at-preserved-then-n-gt0 c = one-blank _ _ _ _ (on _ _ _ _ c.loop-at.invariant c.spaces-at.ensures) c.blank-n.ensures c.if-n-gt0.true
+pub space-preserved-in-Some : goal.space-preserved-in-Some
+space-preserved-in-Some c = one-blank _ _ _ _ (on _ _ _ _ c.space.invariant c.spaces-at.ensures) c.in-Some.ensures
 
-pub loop-at-preserved : goal.loop-at-preserved
-loop-at-preserved c = one-comment _ _ _ _ _ _ (on _ _ _ _ c.loop-at.invariant c.spaces-at.ensures) c.blank-n.ensures c.if-n-gt0.false c.byte_at.ensures c.if-byte_at-eq35.true c.comment-at.ensures
+pub lines-init : goal.lines-init
+lines-init c = one-comment _ _ _ _ (on _ _ _ _ c.space.invariant c.spaces-at.ensures) c.in_default.ensures c.byte_at.ensures c.if-byte_at-ne35.false
 
-pub returns-else-byte_at-eq35 : goal.returns-else-byte_at-eq35
-returns-else-byte_at-eq35 c = no-comment _ _ _ _ _ (on _ _ _ _ c.loop-at.invariant c.spaces-at.ensures) c.blank-n.ensures c.if-n-gt0.false c.byte_at.ensures c.if-byte_at-eq35.false
+pub space-preserved : goal.space-preserved
+space-preserved c = line-off _ _ _ _ _ _ _ c.lines.invariant c.line_end-end.ensures c.goes_on-on.ensures c.min-at.ensures c.if-not-on.true
+
+pub lines-smaller : goal.lines-smaller
+lines-smaller c = omega (arith, c.min-at.ensures, line-moves _ _ _ _ _ _ _ c.lines.invariant c.line_end-end.ensures c.goes_on-on.ensures c.min-at.ensures c.if-not-on.false)
+
+pub lines-preserved : goal.lines-preserved
+lines-preserved c = line_on _ _ _ _ _ _ _ c.lines.invariant c.line_end-end.ensures c.goes_on-on.ensures c.min-at.ensures c.if-not-on.false
+
+pub returns : goal.returns
+returns c = no-comment _ _ _ _ (on _ _ _ _ c.space.invariant c.spaces-at.ensures) c.in_default.ensures c.byte_at.ensures c.if-byte_at-ne35.true

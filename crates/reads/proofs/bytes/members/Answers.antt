@@ -1,8 +1,12 @@
 -- `members` meets its contract. Assumes nothing.
 use native.Mathlib.Omega.{arith}
-use Rattle.reads.specs.Places.{row-over}
+use mathlib.Core.Path.{refl}
+use Rattle.reads.specs.Places.{begun, row-over}
 use Rattle.reads.proofs.Rows.{gives_all}
 use Rattle.reads.proofs.bytes.members.Goals as goal
+
+pub count-requires-clause-can : goal.count-requires-clause-can
+count-requires-clause-can c = (begun c.args.b.now c.args.q c.args.z c.fields.result c.fields.result refl c.fields.ensures c.requires.0 c.requires.1).0
 
 pub returns : goal.returns
 returns c =

@@ -2,9 +2,15 @@
 use native.Mathlib.Omega.{arith}
 use mathlib.Core.Path.{subst}
 use Prim.Native.Nat.{ℕ}
-use Rattle.reads.specs.Places.{turn, turned}
-use Rattle.reads.proofs.Partings.{Adding, add-part, add-more, add_done, add-room}
+use Rattle.reads.specs.Places.{begun, turn, turned}
+use Rattle.reads.proofs.Partings.{Adding, add-start, add-part, add-more, add_done, add-room}
 use Rattle.reads.proofs.width.parts_width.Goals as goal
+
+pub loop-p-init : goal.loop-p-init
+loop-p-init c =
+    let a = c.args in
+    let i = begun a.b.now a.q a.z _ c.into_iter-p-iterator.result c.into_iter-p-iterator.ensures.into_iter_gives c.fields-p-items.ensures c.requires.0 (_, c.requires.1.1) in
+    (i.0, i.1, subst (λ (n : ℕ). Adding a.b.now a.q a.z n 0) i.2 (add-start a.b.now a.q a.z))
 
 pub part_width-w-requires : goal.part_width-w-requires
 part_width-w-requires c =

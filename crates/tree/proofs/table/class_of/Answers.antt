@@ -6,4 +6,4 @@ use Rattle.tree.proofs.table.class_of.Goals as goal
 
 pub returns : goal.returns
 unfolding classes
-returns c = class-at c.args.k (search rules)
+returns c = rw c.from.ensures (class-at c.args.k (search rules))
