@@ -96,6 +96,17 @@ pub fn number(n: usize) -> [u8; 2]
     ((n % 65536) as u16).to_le_bytes()
 }
 
+// Copies bytes into out from at on.
+// Kept: one by one, which compiles to a call of memcpy: by `copy_from_slice` it is one of memmove, a name that the library for C does not ask for elsewhere.
+fn copy(out: &mut [u8], at: usize, bytes: &[u8])
+    requires { at + length bytes.now ≤ length out.old }
+    ensures { out.new ≡ overlay out.old at bytes.now }
+{
+    for (i, byte) in bytes.iter().enumerate() {
+        out[at + i] = *byte;
+    }
+}
+
 // Puts bytes into out from at on, as far as there is room, and gives the offset behind them.
 pub fn put(out: &mut [u8], at: usize, bytes: &[u8]) -> usize
     requires { at + length bytes.now < 2 ^ 64 }
@@ -103,10 +114,10 @@ pub fn put(out: &mut [u8], at: usize, bytes: &[u8]) -> usize
 {
     let end = at + bytes.len();
     if end <= out.len() {
-        out[at..end].copy_from_slice(bytes);
+        copy(out, at, bytes);
     } else if at < out.len() {
         let fits = out.len() - at;
-        out[at..].copy_from_slice(&bytes[..fits]);
+        copy(out, at, &bytes[..fits]);
     }
     end
 }
@@ -125,7 +136,7 @@ pub fn store_pair(out: &mut [u8], at: usize, tag: u8, a: usize, b: usize)
     requires { at + 7 ≤ length out.old }
     ensures { out.new ≡ overlay out.old at (field tag (number 2 a ++ number 2 b)) }
 {
-    out[at..at + 7].copy_from_slice(&pair(tag, a, b));
+    copy(out, at, &pair(tag, a, b));
 }
 
 // Puts a field of two numbers, as far as there is room.
