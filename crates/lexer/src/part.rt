@@ -5,7 +5,7 @@ ghost use Rattle.std.specs.Prelude.{◌≡◌, take, drop};
 pub fn after(s: &[u8], n: usize) -> &[u8]
     ensures { result.now ≡ drop n s.now }
 {
-    s.get(n..).unwrap_or_default()
+    s.get(n..).unwrap_or(&s[s.len()..])
 }
 
 // The first n bytes.
