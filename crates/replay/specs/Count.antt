@@ -1,5 +1,5 @@
 -- The counts of cases and of mismatches, a tally for each entry, and what they say of the sample.
-use Rattle.std.specs.Prelude.{◌≡◌, Bool, true, List, ℕ, ◌+◌, ◌≤◌, ◌<◌, ◌^◌, length, take, drop, get_or, Option, IfSome}
+use Rattle.std.specs.Prelude.{◌≡◌, Bool, List, ℕ, ◌+◌, ◌≤◌, ◌<◌, ◌^◌, length, take, drop, get_or, Option, IfSome}
 use denote.Bor.{Bor}
 use Rattle.fields.specs.Outcome.{pick}
 use Rattle.replay.specs.declared.Entry.{Entry}

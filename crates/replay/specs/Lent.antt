@@ -1,5 +1,5 @@
 -- What the room holds before a call and after it. It is filled with a pattern, so that a byte that an entry changed shows.
-use Rattle.std.specs.Prelude.{◌≡◌, Bool, true, List, ℕ, ◌%◌, ◌≤◌, ◌<◌, length, get_or, ltb}
+use Rattle.std.specs.Prelude.{◌≡◌, Bool, true, List, ℕ, ◌+◌, ◌%◌, ◌≤◌, ◌<◌, length, get_or, ltb}
 use Rattle.fields.specs.Outcome.{pick}
 
 abbrev pub pattern_at : ℕ → ℕ
@@ -7,6 +7,10 @@ pattern_at i = i % 251
 
 unfoldable pub Patterned : List ℕ → Type 0
 Patterned room = (i : ℕ) → i < length room → get_or room i 0 ≡ pattern_at i
+
+-- the pattern from number `from` on
+abbrev pub Untouched : List ℕ → ℕ → Type 0
+Untouched bytes from = (i : ℕ) → i < length bytes → get_or bytes i 0 ≡ pattern_at (from + i)
 
 -- what the room must hold at i: the listing, and past it the pattern still
 unfoldable pub due_at : List ℕ → ℕ → ℕ

@@ -10,10 +10,10 @@
 
 #![tactic(auto)]
 
-ghost use Rattle.std.specs.Prelude.{◌≡◌, ◌+◌, ◌≤◌, ◌<◌, ◌^◌, length, IfOk, IfSome, MatchOption};
+ghost use Rattle.std.specs.Prelude.{◌≡◌, ℕ, ◌+◌, ◌≤◌, ◌<◌, ◌^◌, length, IfOk, IfSome, MatchOption};
 ghost use Rattle.fields.specs.Outcome.{Answers};
 ghost use Rattle.replay.specs.Case.{NumberFirst, CaseFirst};
-ghost use Rattle.replay.specs.Lent.{pattern_at, Patterned, due_at, Left, Tells};
+ghost use Rattle.replay.specs.Lent.{pattern_at, Patterned, Untouched, Left, Tells};
 ghost use Rattle.replay.specs.Replay.{byte_of, outcome, Unnamed, HoldsAs};
 ghost use Rattle.replay.specs.Count.{Few, CanGrow, Counted, OneMore, Turned, Faultless, Held, Ended};
 
@@ -56,30 +56,49 @@ fn pattern(i: usize) -> u8
     (i % 251) as u8
 }
 
+// The pattern's byte behind this one. A room is gone over with this, and no remainder computed for each of its bytes.
+fn next(byte: u8) -> u8
+    ensures { (i : ℕ) → byte ≡ pattern_at i → result ≡ pattern_at (i + 1) }
+{
+    if byte < 250 { byte + 1 } else { 0 }
+}
+
 fn fill(room: &mut [u8])
     ensures { Patterned room.new }
 {
-    for (i, byte) in room.iter_mut().enumerate() {
-        *byte = pattern(i);
+    let mut due = pattern(0);
+    for byte in room.iter_mut() {
+        *byte = due;
+        due = next(due);
     }
 }
 
-// What the room must hold at i after a call that gives this listing.
-fn due(listing: &[u8], i: usize) -> u8
-    ensures { result ≡ due_at listing.now i }
+// Does the pattern stand in these bytes, the first of which is byte number `from` of a room?
+fn untouched(bytes: &[u8], from: usize) -> bool
+    ensures { Tells result (Untouched bytes.now from) }
 {
-    listing.get(i).copied().unwrap_or(pattern(i))
+    let mut due = pattern(from);
+    for byte in bytes {
+        if *byte != due {
+            return false;
+        }
+        due = next(due);
+    }
+    true
 }
 
 // Does the room hold the listing, and past it the pattern still?
 fn left(room: &[u8], listing: &[u8]) -> bool
     ensures { Tells result (Left room.now listing.now) }
 {
-    listing.len() <= room.len()
-        && room
-            .iter()
-            .enumerate()
-            .all(|(i, byte)| *byte == due(listing, i))
+    let n = listing.len();
+    if room.len() < n {
+        return false;
+    }
+    if &room[..n] == listing {
+        return untouched(&room[n..], n);
+    }
+    false
 }
 
 // A recorded case, in its parts.

@@ -4,4 +4,4 @@ use Rattle.replay.proofs.Rooms.{fill-all}
 use Rattle.replay.proofs.fill.Goals as goal
 
 pub returns : goal.returns
-returns c = fill-all c.loop-i.room c.loop-i.i (omega (arith, c.loop-i.auto.room)) c.loop-i.invariant
+returns c = fill-all c.loop-byte.room c.loop-byte.byte-index (omega (arith, c.loop-byte.auto.room)) c.loop-byte.invariant.1

@@ -1,16 +1,22 @@
--- `replay::left` meets its contract: each byte of the room is compared with what is due. Assumes nothing.
-use Rattle.std.proofs.Common.{rules, tests}
-use Rattle.std.proofs.lemmas.Bool.{lt-leb}
-use Rattle.std.proofs.lemmas.Iterator.{YieldsList-from_slice}
-use Rattle.std.proofs.lemmas.Iterator.Consumers.{YieldsList-from_enumerate}
-use Rattle.std.proofs.lemmas.Iterator.Search.{all_from_yields_List}
-use Rattle.replay.proofs.Rooms.{short, is_due, compared}
+-- `replay::left` meets its contract: the room begins with the listing, and the pattern is behind it. Assumes nothing.
+use Rattle.std.proofs.Common.{refl, arith, sym, subst, ◌∙◌, length}
+use Rattle.std.specs.Cmp.Lexicographic.{same_text, other_text}
+use Rattle.replay.specs.Lent.{Untouched}
+use Rattle.replay.proofs.Rooms.{short, untold, rest, both-left, left-listing, left-behind}
 use Rattle.replay.proofs.left.Goals as goal
 
-pub returns-then-listing-room : goal.returns-then-listing-room
-returns-then-listing-room c =
-    compared _ _ _ c.if-listing-room.true
-    (all_from_yields_List (is_due c.args.listing.now) _ _ _ c.all.ensures.ran (YieldsList-from_enumerate (YieldsList-from_slice c.args.room.now cc) cc) (λ x b q k. search (rules, tests)))
+pub returns-then-room-n : goal.returns-then-room-n
+returns-then-room-n c = short _ _ c.if-room-n.true
 
-pub returns-else-listing-room : goal.returns-else-listing-room
-returns-else-listing-room c = simp (lt-leb _ _ c.if-listing-room.false) (short _ _ c.if-listing-room.false)
+pub returns-then-eq : goal.returns-then-eq
+returns-then-eq c =
+    let room = c.args.room.now in
+    let listing = c.args.listing.now in
+    let n = length listing in
+    let h = rest room listing n refl (omega (arith, c.if-room-n.false)) in (
+      λ t. both-left room listing n refl (omega (arith, c.if-room-n.false)) (same_text _ _ (sym c.if-eq.true ∙ c.eq.ensures)) (subst (λ x. Untouched x n) h (c.untouched.ensures.0 t)),
+      λ l. c.untouched.ensures.1 (subst (λ x. Untouched x n) (sym h) (left-behind room listing n refl (omega (arith, c.if-room-n.false)) l)),
+    )
+
+pub returns : goal.returns
+returns c = untold (λ l. other_text _ _ (sym c.if-eq.false ∙ c.eq.ensures) (left-listing c.args.room.now c.args.listing.now _ refl (omega (arith, c.if-room-n.false)) l))
