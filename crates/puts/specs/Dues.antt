@@ -4,7 +4,7 @@ use Rattle.std.proofs.Common.{arith, sym, ap, ◌∙◌, inl, inr}
 use Rattle.fields.specs.Room.{overlay}
 use Rattle.puts.specs.declared.state.State.{State}
 use Rattle.puts.specs.State.{off, with_off, late, start_of, spot_of, next_of, start_at, spot_at, next_at, at_of, Due}
-use Rattle.puts.specs.Rooms.{start-other, start-high, spot-own, spot-late, next-own, next-late}
+use Rattle.puts.specs.Rooms.{start-high, spot-own, spot-late, next-own, next-late}
 
 -- before the next offset, at it, or behind the members
 pub due-placed : (o : Option ℕ) (st : State) → Due o st → (at_of o ≤ off st) ⊎ (at_of o ≡ late)
@@ -22,8 +22,7 @@ due-least None st b d l h = h
 -- where the members start
 pub started : (o : Option ℕ) (m w : ℕ) → m < late → start_at o m w ≡ start_of (at_of o) m w
 unfolding start_at
-started (Some o) m w l = refl
-started None m w l = sym (start-other late m w (λ e. omega (arith, l, e)))
+started o m w l = refl
 
 -- where the own record stands, and the next offset
 pub spotted : (o : Option ℕ) (x : ℕ) (st : State) → Due o st → off st < late → spot_at o x ≡ spot_of (at_of o) x
@@ -44,8 +43,7 @@ spot-most None x b h k = k
 
 pub start-most : (o : Option ℕ) (m w : ℕ) → start_at o m w ≤ m + w
 unfolding start_at
-start-most (Some o) m w = start-high o m w
-start-most None m w = omega arith
+start-most o m w = start-high (at_of o) m w
 
 -- ---- what the state's methods give, by the number
 

@@ -44,10 +44,14 @@ spot_of o x = cond (eqb o late) x o
 unfoldable pub next_of : ℕ → ℕ → ℕ → ℕ
 next_of o x w = cond (eqb o late) (x + w) x
 
--- where an own record is due: at an offset, or, with none, behind what it contains. The same three of that
+-- where an own record is due: at an offset, or, with none, behind what it contains. As a number: none is more than any offset
+abbrev pub at_of : Option ℕ → ℕ
+at_of (Some o) = o
+at_of None = late
+
+-- the same three of that
 unfoldable pub start_at : Option ℕ → ℕ → ℕ → ℕ
-start_at (Some o) m w = start_of o m w
-start_at None m w = m
+start_at o m w = start_of (at_of o) m w
 
 unfoldable pub spot_at : Option ℕ → ℕ → ℕ
 spot_at (Some o) x = o
@@ -56,11 +60,6 @@ spot_at None x = x
 unfoldable pub next_at : Option ℕ → ℕ → ℕ → ℕ
 next_at (Some o) x w = x
 next_at None x w = x + w
-
--- as a number: none is more than any offset
-abbrev pub at_of : Option ℕ → ℕ
-at_of (Some o) = o
-at_of None = late
 
 -- an offset that is due is not past the next one
 abbrev pub Due : Option ℕ → State → Type 0

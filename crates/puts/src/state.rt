@@ -4,6 +4,9 @@
 ghost use Rattle.std.specs.Prelude.{◌≡◌, ◌+◌, ◌<◌, ◌^◌};
 ghost use Rattle.puts.specs.State.{at_of, start_at, spot_at, next_at};
 
+// More than any offset. Where no own record is due, it counts as due there.
+pub const LATE: usize = 0x4000_0000_0000_0000;
+
 #[derive(Clone, Copy)]
 pub struct State {
     // the next term number
@@ -21,11 +24,9 @@ impl State {
         requires { at_of o + w < 2 ^ 64 }
         ensures { self.new ≡ record self.old { end = start_at o self.old.end w } }
     {
-        let Some(x) = o else {
-            return;
-        };
-        if x == self.end {
-            self.end = x + w;
+        let at = o.unwrap_or(LATE);
+        if at == self.end {
+            self.end = at + w;
         }
     }
 

@@ -1,12 +1,9 @@
 -- `State::reserve` meets its contract. Assumes nothing.
-use Rattle.puts.proofs.Spots.{reserved, untouched, none-reserved}
+use Rattle.puts.proofs.Spots.{reserved, untouched}
 use Rattle.puts.proofs.state.State.reserve.Goals as goal
 
-pub returns-in_default : goal.returns-in_default
-returns-in_default c = let a = c.args in rw c.in_default.is (none-reserved a.self.now a.w)
+pub returns-then-at-self : goal.returns-then-at-self
+returns-then-at-self c = let a = c.args in reserved a.self.now a.o a.w _ c.unwrap_or-at.ensures c.if-at-self.true
 
-pub returns-then-x-self : goal.returns-then-x-self
-returns-then-x-self c = let a = c.args in rw c.in-Some.is (reserved a.self.now c.in-Some.x a.w c.if-x-self.true)
-
-pub returns-else-x-self : goal.returns-else-x-self
-returns-else-x-self c = let a = c.args in rw c.in-Some.is (untouched a.self.now c.in-Some.x a.w c.if-x-self.false)
+pub returns-else-at-self : goal.returns-else-at-self
+returns-else-at-self c = let a = c.args in untouched a.self.now a.o a.w _ c.unwrap_or-at.ensures c.if-at-self.false
