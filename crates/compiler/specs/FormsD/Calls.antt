@@ -211,12 +211,11 @@ pub call-args : (b : List ℕ) (p q z a : ℕ) → z ≡ end_of b p → Called b
 call-args b p q z a e c = (c.args.0, subst (λ (i : ℕ). Row b (f_terms c.args.0 rnil) q i) (sym e) c.args.1, c.args.2)
 
 pub call-ready : (b s : List ℕ) (k p q z a o w : ℕ) (f : Hit.Found) (st st₁ : State) → z ≡ end_of b p → Called b p q a → Ready b s k (p + 1) (end_of b p) st → w ≡ call_width f.kind a → st₁ ≡ with_off st (start_of o (off st) w)
-    → Ready b s k q z st₁ × ((ts : Terms) × Row b (f_terms ts rnil) q z)
-call-ready b s k p q z a o w f st st₁ ez c y ew e =
-    let h = call-args b p q z a ez c in (
-      subst (λ (i : ℕ). Ready b s k q i st₁) (sym ez) (ready-start b s k (p + 1) q (end_of b p) (end_of b p) o w st st₁ y (omega (arith, c.low)) (omega (arith, c.high)) (omega arith) (omega (arith, ew, width_few f.kind a, c.high, c.fits, y.small)) e),
-      (h.0, h.1),
-    )
+    → Ready b s k q z st₁ × ((ts : Terms) × Row b (f_terms ts rnil) q z × (arity ts ≡ a))
+call-ready b s k p q z a o w f st st₁ ez c y ew e = (
+  subst (λ (i : ℕ). Ready b s k q i st₁) (sym ez) (ready-start b s k (p + 1) q (end_of b p) (end_of b p) o w st st₁ y (omega (arith, c.low)) (omega (arith, c.high)) (omega arith) (omega (arith, ew, width_few f.kind a, c.high, c.fits, y.small)) e),
+  call-args b p q z a ez c,
+)
 
 -- behind them
 module _ (b s s' : List ℕ) (k p q a o w : ℕ) (f : Hit.Found) (st st₁ st₂ : State) (d d₁ : List ℕ) (c : Called b p q a) (y : Ready b s k (p + 1) (end_of b p) st) (ew : w ≡ call_width f.kind a)

@@ -347,7 +347,8 @@ pub call-args-requires : goal.call-args-requires
 call-args-requires t c = let y = c.requires.0 in
     let h = membered _ _ _ _ _ c.end_of-z.ensures c.members-a.ensures in
     let k = call_known _ _ _ _ c.requires.3 c.requires.1 c.end_of-q.ensures h in
-    (omega (arith, c.decreases, k.low, k.high, k.fits), call-ready _ _ _ _ _ _ _ _ _ (numbers c.meaning-f.result) _ _ c.end_of-z.ensures k y c.call_width-w.ensures (reserve-of c.args.o _ c.args.self.now.st _ (ready-low _ _ _ _ _ _ c.requires.0) c.reserve.ensures))
+    let r = call-ready _ _ _ _ _ _ _ _ _ (numbers c.meaning-f.result) _ _ c.end_of-z.ensures k y c.call_width-w.ensures (reserve-of c.args.o _ c.args.self.now.st _ (ready-low _ _ _ _ _ _ c.requires.0) c.reserve.ensures) in
+    (omega (arith, c.decreases, k.low, k.high, k.fits), (r.0, (r.1.0, r.1.1)))
 
 pub call-fail-requires : goal.call-fail-requires
 call-fail-requires t c = let y = c.requires.0 in
