@@ -127,8 +127,9 @@ items = {listed(items)}
 def write_code(classes, shapes, items):
     path = 'crates/tree/src/table.rt'
     text = open(path).read()
-    for name, xs in (('CLASSES', classes), ('SHAPES', shapes), ('ITEMS', items)):
-        text = re.sub(rf'static {name}: \[u8; \d+\] = \[[^\]]*\];', f'static {name}: [u8; {len(xs)}] = [{", ".join(map(str, xs))}];', text)
+    for name, xs in (('classes', classes), ('shapes', shapes), ('items', items)):
+        text = re.sub(rf'{name}: \[[\d\s,]*\],', f'{name}: [{", ".join(map(str, xs))}],', text)
+        text = re.sub(rf'{name}: \[u8; \d+\],', f'{name}: [u8; {len(xs)}],', text)
     open(path, 'w').write(text)
 
 

@@ -5,10 +5,12 @@ use mathlib.Core.Path.{◌≡◌, refl, sym, ap, ◌∙◌}
 use mathlib.Core.List.{List, [], ◌∷◌}
 use mathlib.Core.Bool.{Bool, true, false, ◌&&◌}
 use lib.Dec.{eqb, T, eqb-suc-suc}
-use lib.ListN.{length, get_or, take, drop}
+use lib.ListN.{length, get_or, take, drop, drop_of_length-le}
 use borrow.Author.Tests.{eq-eqb, ne_eqb, eqb-true, eqb-false}
 use Rattle.std.specs.Int.{w32, from_le_bytes}
-use Rattle.std.specs.List.{AllWithin, starts_with}
+use Rattle.std.specs.List.{starts_with}
+use lib.Seq.{take_all}
+use Rattle.std.proofs.lemmas.List.{drop_more, length-drop}
 use Rattle.fields.specs.Number.{value}
 use Rattle.text.specs.Utf8.{is_scalar}
 use Rattle.text.specs.Valid.{valid_prefix, passing}
@@ -28,11 +30,16 @@ text-ascii : (x : ℕ) (xs : List ℕ) → x < 128 → text xs ≡ text (x ∷ x
 unfolding text
 text-ascii x xs h = sym (ap (λ (n : ℕ). eqb n (suc (length xs))) (prefix-cons x xs h) ∙ eqb-suc-suc (valid_prefix xs) (length xs))
 
--- ASCII alone is a text
-pub ascii-text : (x : List ℕ) → AllWithin (λ k. k < 128) x 0 (length x) → true ≡ text x
+-- ASCII at the front may be passed over
+pub text-next : (x : List ℕ) (i : ℕ) → i < length x → get_or x i 0 < 128 → text x ≡ text (drop i x) → text x ≡ text (drop (i + 1) x)
+text-next x i h k e = e ∙ ap text (drop_more x i 0 h) ∙ sym (text-ascii (get_or x i 0) (drop (i + 1) x) k)
+
+pub text-rest : (x : List ℕ) (i : ℕ) → text x ≡ text (drop i x) → text (take (length x - i) (drop i x)) ≡ text x
+text-rest x i e = ap text (take_all (length x - i) (drop i x) (omega (arith, length-drop i x))) ∙ sym e
+
+pub text-done : (x : List ℕ) (i : ℕ) → length x ≤ i → text x ≡ text (drop i x) → true ≡ text x
 unfolding text valid_prefix passing
-ascii-text [] h = refl
-ascii-text (y ∷ ys) h = ascii-text ys (λ k d l m. h (suc k) d (omega arith) (omega arith)) ∙ text-ascii y ys (h 0 y (omega arith) (omega arith))
+text-done x i h e = sym (e ∙ ap text (drop_of_length-le x h))
 
 pub text-whole : (x : List ℕ) (n : ℕ) → n ≡ valid_prefix x → eqb n (length x) ≡ text x
 unfolding text

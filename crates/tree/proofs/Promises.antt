@@ -1,8 +1,10 @@
 -- What `tree` promises: the theorems that a reader signs for. Each is proved below this page, and cited here. Assumes nothing.
-use Rattle.std.specs.Prelude.{ℕ, ◌≤◌, ◌≡◌, List, length}
+use Rattle.std.specs.Prelude.{ℕ, ◌≤◌, ◌≡◌, List, length, Result, IfErr}
 use Rattle.tree.specs.Tree.{Tree}
-use Rattle.tree.specs.Verdict.{Encodes, nesting, defining, Says, fine}
-use Rattle.tree.proofs.Verdicts.{says-zero, says-one}
+use Rattle.fields.specs.declared.Refusal.{Refusal}
+use Rattle.fields.specs.Refusals.{place_of}
+use Rattle.tree.specs.Verdict.{Encodes, nesting, defining, Says, number_said, fine}
+use Rattle.tree.proofs.Verdicts.{says-zero, says-one, gives-one}
 use Rattle.tree.proofs.Unique.{unique}
 use Rattle.tree.specs.Encoded.{Bytes}
 use Rattle.tree.proofs.Encoded.{same_bytes}
@@ -26,3 +28,7 @@ accepts b t r l h m n s = says-one b r 0 s (fine l t h m n)
 -- "Any two answers it permits are shown equal".
 pub one-verdict : (b : List ℕ) (r s : ℕ) → Says b r → Says b s → r ≡ s
 one-verdict b r s x y = says-one b r s x y
+
+-- the same of what a call gives, the place of a refusal too
+pub one-result : (b : List ℕ) (r s : Result (Unit {0}) Refusal) → Says b (number_said r) → IfErr r (λ e. place_of e ≡ 0) → Says b (number_said s) → IfErr s (λ e. place_of e ≡ 0) → r ≡ s
+one-result b r s h p k q = gives-one b r s h p k q

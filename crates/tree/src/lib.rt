@@ -49,9 +49,7 @@ fn behind(it: Item, j: usize) -> usize
     }
 }
 
-// What may follow a member of class c in the row of items at i, where items may have to be passed over first. Few members come here: a function of its
-// own leaves the registers to the loop over members.
-#[inline(never)]
+// What may follow a member of class c in the row of items at i, where items may have to be passed over first.
 fn skip(i: usize, c: u8) -> Option<usize>
     requires { (i < 106) × (0 < c) }
     ensures { IsDue result (after (row_at i) c) }
@@ -120,10 +118,15 @@ fn is_utf8(x: &[u8]) -> bool
 fn is_text(x: &[u8]) -> bool
     ensures { result ≡ text x.now }
 {
-    if x.len() <= 24 && x.iter().all(|k| k.is_ascii()) {
-        return true;
+    if x.len() > 24 {
+        return is_utf8(x);
     }
-    is_utf8(x)
+    for (i, k) in x.iter().enumerate() {
+        if !k.is_ascii() {
+            return is_utf8(&x[i..]);
+        }
+    }
+    true
 }
 
 // The operator bytes.

@@ -1,12 +1,16 @@
--- `tree::is_text`: ASCII alone is UTF-8, and else all of it is looked at. Assumes nothing.
+-- `tree::is_text`: what is left is UTF-8 exactly if the whole is, while only ASCII was passed. Assumes nothing.
 use borrow.Author.Rules.{rules}
-use Rattle.std.proofs.Common.{◌≤◌, ◌<◌, tests}
-use Rattle.std.proofs.lemmas.Bool.{MatchBool-at_true}
-use Rattle.std.proofs.lemmas.Iterator.{cases_from_all, YieldsList-from_slice}
-use Rattle.tree.proofs.Leaves.{ascii-text}
+use Rattle.std.proofs.Common.{tests, ◌∙◌, ◌<◌, get_or}
+use Rattle.tree.proofs.Leaves.{text-next, text-rest, text-done}
 use Rattle.tree.proofs.is_text.Goals as goal
 
-pub returns-then-all : goal.returns-then-all
-returns-then-all c =
-    let w = cases_from_all _ _ _ (λ x. x < 128) (λ x. 128 ≤ x) c.all.ensures.ran (YieldsList-from_slice c.args.x.now (search rules)) (λ x q k. search (rules, tests)) (λ x q k. search (rules, tests)) in
-    ascii-text _ (MatchBool-at_true _ _ c.if-all.true w)
+pub returns-then-not-is_ascii : goal.returns-then-not-is_ascii
+returns-then-not-is_ascii c = c.is_utf8-then-not-is_ascii.ensures ∙ text-rest c.args.x.now c.loop-i.i c.loop-i.invariant
+
+pub loop-i-preserved : goal.loop-i-preserved
+loop-i-preserved c =
+    let k : get_or c.args.x.now c.loop-i.i 0 < 128 = search (rules, tests) in
+    text-next c.args.x.now c.loop-i.i c.loop-i-test.true k c.loop-i.invariant
+
+pub returns : goal.returns
+returns c = text-done c.args.x.now c.loop-i.i c.loop-i-test.false c.loop-i.invariant
