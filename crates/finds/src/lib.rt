@@ -78,6 +78,7 @@ pub enum Meaning {
 }
 
 // "last definition first": from row lo up to hi.
+#[inline(always)]
 fn within(tree: &[u8], rows: &[u64], lo: usize, hi: usize, x: &Sought) -> Option<usize>
     requires { (0 < lo) × (lo ≤ hi) × ((j : ℕ) → lo ≤ j → j < hi → Row tree.now rows.now j) }
     ensures { Gives (λ r. r ≡ first_of (matches tree.now rows.now x.now.name.now x.now.word x.now.key) (down_to lo (hi - lo))) result }
@@ -91,6 +92,7 @@ fn within(tree: &[u8], rows: &[u64], lo: usize, hi: usize, x: &Sought) -> Option
 }
 
 // The definition of module i that matches. The module's cell says where its rows start and end.
+#[inline(always)]
 fn defined(tree: &[u8], rows: &[u64], i: usize, x: &Sought) -> Option<usize>
     requires { (vw : View) × (k : ℕ) × Seen vw tree.now rows.now k × (i < home_of vw.top) }
     ensures { Gives (Defined tree.now rows.now i x.now.name.now x.now.key) result }

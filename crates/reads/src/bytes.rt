@@ -169,6 +169,7 @@ pub fn word(x: &[u8]) -> u64
 }
 
 // Where a `::` that place i is part of starts; i is not 0.
+#[inline(always)]
 fn colons_at(x: &[u8], i: usize) -> Option<usize>
     requires { (0 < i) × (i < length x.now) }
     ensures { SomeIff result (colons_at x.now i < length x.now) (colons_at x.now i) }
