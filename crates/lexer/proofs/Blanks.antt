@@ -38,7 +38,7 @@ blank-ascii s at b g h = go (ltb at (length s)) refl
         let k : b ≡ 0 = g.is ∙ get_or-eq_default s 0 (ltb-false at (length s) l) in
         rw (n, k, no_char, no-blank)
 
-a-blank : white_space 0x20 ≡ true
+pub a-blank : white_space 0x20 ≡ true
 unfolding white_space spaces
 a-blank = refl
 

@@ -1,21 +1,47 @@
 -- The loops of `space::space`: blanks and comments, and in a comment its lines. Assumes nothing.
 use mathlib.Core.Path.{◌≡◌, refl, sym, ap, ◌∙◌}
-use mathlib.Core.Bool.{Bool, true, false}
+use mathlib.Core.Bool.{Bool, true, false, false≢true}
 use mathlib.Core.List.{List}
 use Prim.Native.Nat.{ℕ, zero, suc, ◌+◌, ◌-◌, ◌≤◌, ◌<◌, min}
 use native.Mathlib.Omega.{arith}
 use lib.ListN.{length}
-use lib.Dec.{eqb, ltb}
-use borrow.Author.Tests.{ltb-true, ltb-false, eqb-true}
+use lib.Dec.{eqb, ltb, leb}
+use borrow.Author.Tests.{ltb-true, ltb-false, eqb-true, leb-true}
+use Rattle.std.specs.Prelude.{◌&&◌, ◌||◌}
+use Rattle.std.proofs.lemmas.Grind.{common_steps}
+use Rattle.text.specs.Space.{white_space, spaces}
 use Rattle.lexer.specs.Scan.{byte, past}
 use Rattle.lexer.specs.Space.{blank, in_line, goes_on, next_line, comment, space}
 use Rattle.lexer.specs.Meets.{Byte, Reaches, Spacing, bare}
 use Rattle.lexer.proofs.Past.{past_more, past_stop, past_end}
-use Rattle.lexer.proofs.Blanks.{blank-space, bare-not}
+use Rattle.lexer.proofs.Blanks.{a-blank, blank-ascii, blank-space, bare-not}
 use Rattle.lexer.proofs.Skips.{on_some, comment-on, comment-off, space-blank, space-comment, space-stop}
 
+-- white space of ASCII: spaces alone, or all of it
 abbrev pub is_space : ℕ → Bool
 is_space b = eqb b 0x20
+
+abbrev pub is_blank : ℕ → Bool
+is_blank b = eqb b 0x20 || (leb 9 b && leb b 13)
+
+abbrev White : (ℕ → Bool) → Type 0
+White p = (b : ℕ) → p b ≡ true → (b < 128) × (white_space b ≡ true)
+
+from-nine : (b : ℕ) → 9 ≤ b → b ≤ 13 → white_space b ≡ true
+unfolding white_space spaces
+from-nine b l h = grind (arith, common_steps)
+
+white-space : White is_space
+white-space b h = let k = eqb-true b 0x20 h in (omega (arith, k), rw (k, a-blank))
+
+white-blank : White is_blank
+white-blank b = go (eqb b 0x20) refl (leb 9 b) refl (leb b 13) refl
+  where
+    go : (x : Bool) → eqb b 0x20 ≡ x → (y : Bool) → leb 9 b ≡ y → (z : Bool) → leb b 13 ≡ z → (x || (y && z)) ≡ true → (b < 128) × (white_space b ≡ true)
+    go true e y f z g h = white-space b e
+    go false e true f true g h = (omega (arith, leb-true b 13 g), from-nine b (leb-true 9 b f) (leb-true b 13 g))
+    go false e true f false g h = absurd (false≢true h)
+    go false e false f z g h = absurd (false≢true h)
 
 -- what is space from here on is space from the start on, in a comment whose first line starts at first, at the start of one of its lines
 pub record Commenting (s : List ℕ) (from first at : ℕ) : Type 0 where
@@ -37,21 +63,34 @@ module _ (s : List ℕ) (from : ℕ) where
         high = omega (arith, i.within);
       }
 
-  pub space-more : (at : ℕ) → Spacing s from at → at < length s → byte s at ≡ 0x20 → Spacing s from (at + 1)
-  space-more at g h e = one-space at (byte s at) g (record { is = refl; within = omega arith }) e
+  white-more : (at : ℕ) → Spacing s from at → at < length s → (byte s at < 128) × (white_space (byte s at) ≡ true) → Spacing s from (at + 1)
+  white-more at g h w =
+      let n : blank s at ≡ 1 = rw (blank-ascii s at (byte s at) (record { is = refl; within = omega arith }) w.0, w.1) in
+      record {
+        is = rw (← n) (sym (space-blank s at g.high (omega (arith, n))) ∙ g.is);
+        low = omega (arith, g.low);
+        high = omega (arith, h);
+      }
 
-  -- spaces are white space, however many
-  spaces-past : (m i : ℕ) → length s ≤ i + m → Spacing s from i → Spacing s from (past is_space s i)
-  spaces-past zero i l g = rw (past_end is_space s i (omega arith)) g
-  spaces-past (suc m) i l g = here (ltb i (length s)) refl (eqb (byte s i) 0x20) refl (λ h. spaces-past m (i + 1) (omega arith) h)
-    where
-      here : (x : Bool) → ltb i (length s) ≡ x → (y : Bool) → eqb (byte s i) 0x20 ≡ y → (Spacing s from (i + 1) → Spacing s from (past is_space s (i + 1))) → Spacing s from (past is_space s i)
-      here false k y e f = rw (past_end is_space s i (ltb-false _ _ k)) g
-      here true k false e f = rw (past_stop is_space s i (ltb-true _ _ k) e) g
-      here true k true e f = rw (past_more is_space s i (ltb-true _ _ k) e) (f (space-more i g (ltb-true _ _ k) (eqb-true _ _ e)))
+  -- bytes of white space are white space, however many
+  module _ (p : ℕ → Bool) (white : White p) where
+    whites-past : (m i : ℕ) → length s ≤ i + m → Spacing s from i → Spacing s from (past p s i)
+    whites-past zero i l g = rw (past_end p s i (omega arith)) g
+    whites-past (suc m) i l g = here (ltb i (length s)) refl (p (byte s i)) refl (λ h. whites-past m (i + 1) (omega arith) h)
+      where
+        here : (x : Bool) → ltb i (length s) ≡ x → (y : Bool) → p (byte s i) ≡ y → (Spacing s from (i + 1) → Spacing s from (past p s (i + 1))) → Spacing s from (past p s i)
+        here false k y e f = rw (past_end p s i (ltb-false _ _ k)) g
+        here true k false e f = rw (past_stop p s i (ltb-true _ _ k) e) g
+        here true k true e f = rw (past_more p s i (ltb-true _ _ k) e) (f (white-more i g (ltb-true _ _ k) (white (byte s i) e)))
+
+    whites-passed : (r : ℕ) → from ≤ length s → Reaches (past p s from) s from r → Spacing s from r
+    whites-passed r h w = rw w.is (whites-past (length s) from (omega arith) (begin h))
 
   pub spaces-passed : (r : ℕ) → from ≤ length s → Reaches (past is_space s from) s from r → Spacing s from r
-  spaces-passed r h w = rw w.is (spaces-past (length s) from (omega arith) (begin h))
+  spaces-passed = whites-passed is_space white-space
+
+  pub blanks-passed : (r : ℕ) → from ≤ length s → Reaches (past is_blank s from) s from r → Spacing s from r
+  blanks-passed = whites-passed is_blank white-blank
 
   pub on : (i at : ℕ) → Spacing s from i → Spacing s i at → Spacing s from at
   on i at g h = record { is = h.is ∙ g.is; low = omega (arith, g.low, h.low); high = h.high }

@@ -1,4 +1,4 @@
-// The classes of bytes. Each is a few comparisons, the commonest bytes first.
+// The classes of bytes. Each is a few comparisons, the commonest bytes first, or a table.
 ghost use Rattle.std.specs.Prelude.{◌≡◌};
 ghost use Rattle.lexer.specs.Word.{letter, digit, word_byte};
 ghost use Rattle.lexer.specs.Sym.{operator, follows};

@@ -84,6 +84,14 @@ fn spaces(s: &[u8], at: usize) -> usize
     past_many::<16, _>(s, at, |b| b == b' ')
 }
 
+// The place behind the white space of ASCII that starts at a place, of whatever kind: lines and what they are indented by.
+fn blanks(s: &[u8], at: usize) -> usize
+    requires { at ≤ length s.now }
+    ensures { Spacing s.now at result }
+{
+    past_many::<16, _>(s, at, |b| b == b' ' || matches!(b, b'\t'..=b'\r'))
+}
+
 // White space and comments from a place on. A comment is left with the first line that does not go on.
 pub fn space(s: &[u8], from: usize) -> usize
     requires { from ≤ length s.now }
@@ -93,7 +101,7 @@ pub fn space(s: &[u8], from: usize) -> usize
     'space: loop {
         at = spaces(s, at);
         if let Some(n) = blank(s, at) {
-            at += n;
+            at = blanks(s, at + n);
             continue 'space;
         }
         if byte_at(s, at) != b'#' {

@@ -4,7 +4,7 @@ use native.Mathlib.Omega.{arith}
 use Rattle.lexer.proofs.space.space.Goals as goal
 
 pub space-preserved-in-Some : goal.space-preserved-in-Some
-space-preserved-in-Some c = one-blank _ _ _ _ (on _ _ _ _ c.space.invariant c.spaces-at.ensures) c.in-Some.ensures
+space-preserved-in-Some c = on _ _ _ _ (one-blank _ _ _ _ (on _ _ _ _ c.space.invariant c.spaces-at.ensures) c.in-Some.ensures) c.blanks-at.ensures
 
 pub lines-init : goal.lines-init
 lines-init c = one-comment _ _ _ _ (on _ _ _ _ c.space.invariant c.spaces-at.ensures) c.in_default.ensures c.byte_at.ensures c.if-byte_at-ne35.false
