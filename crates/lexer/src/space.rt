@@ -97,9 +97,8 @@ pub fn space(s: &[u8], from: usize) -> usize
     requires { from ≤ length s.now }
     ensures { Reaches (space s.now from) s.now from result }
 {
-    let mut at = from;
+    let mut at = spaces(s, from);
     'space: loop {
-        at = spaces(s, at);
         if let Some(n) = blank(s, at) {
             at = blanks(s, at + n);
             continue 'space;
